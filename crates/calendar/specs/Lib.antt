@@ -1,0 +1,4 @@
+pub mod Ranges
+pub mod Calendar
+pub mod TimeOfDay
+pub mod Answers

@@ -1,0 +1,80 @@
+// The time of day.
+use super::inside;
+use refusals::OUT_OF_RANGE;
+ghost use mathlib.Core.Path.{_≡_};
+ghost use Rattle.calendar.specs.TimeOfDay.{timeInRange, secondOfDay, nextSecond};
+ghost use Rattle.calendar.specs.Answers.{secondAnswer, nextSecondAnswer};
+
+pub struct Time {
+    pub hour: u8,
+    pub minute: u8,
+    pub second: u8,
+}
+
+pub enum SecondAnswer {
+    Second(u32),
+    Refused(u8),
+}
+
+// The next second, and whether it belongs to the same day or to the next.
+pub enum NextSecondAnswer {
+    SameDay(Time),
+    NextDay(Time),
+    Refused(u8),
+}
+
+fn time_in_range(time: Time) -> bool
+    ensures { λ r. ⌜ r ≡ timeInRange time ⌝ }
+{
+    if !inside(0, time.hour as u16, 23) {
+        return false;
+    }
+    if !inside(0, time.minute as u16, 59) {
+        return false;
+    }
+    inside(0, time.second as u16, 59)
+}
+
+// How many seconds of the day have gone by.
+pub fn second_of_day(time: Time) -> SecondAnswer
+    ensures { λ r. ⌜ secondAnswer r ≡ secondOfDay time ⌝ }
+{
+    if !time_in_range(time) {
+        return SecondAnswer::Refused(OUT_OF_RANGE);
+    }
+    SecondAnswer::Second(3600 * time.hour as u32 + 60 * time.minute as u32 + time.second as u32)
+}
+
+pub fn next_second(time: Time) -> NextSecondAnswer
+    ensures { λ r. ⌜ nextSecondAnswer r ≡ nextSecond time ⌝ }
+{
+    if !time_in_range(time) {
+        return NextSecondAnswer::Refused(OUT_OF_RANGE);
+    }
+    if time.second < 59 {
+        return NextSecondAnswer::SameDay(Time {
+            hour: time.hour,
+            minute: time.minute,
+            second: time.second + 1,
+        });
+    }
+    if time.minute < 59 {
+        return NextSecondAnswer::SameDay(Time {
+            hour: time.hour,
+            minute: time.minute + 1,
+            second: 0,
+        });
+    }
+    if time.hour < 23 {
+        return NextSecondAnswer::SameDay(Time {
+            hour: time.hour + 1,
+            minute: 0,
+            second: 0,
+        });
+    }
+    NextSecondAnswer::NextDay(Time {
+        hour: 0,
+        minute: 0,
+        second: 0,
+    })
+}

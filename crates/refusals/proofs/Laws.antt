@@ -1,0 +1,47 @@
+-- Laws of refusals and of the tests behind them. Assumes nothing.
+use mathlib.Core.Path.{_≡_, refl}
+use mathlib.Core.Bool.{Bool, true, false, not, _&&_}
+use Prim.Native.Nat.{ℕ, zero, suc}
+use native.Mathlib.Omega.{arith}
+use Rattle.refusals.specs.Refusals.{_when_, _else_, Outcome, done, refused, unless}
+
+-- both parts of a test that passes
+pub both : (a b : Bool) → (a && b) ≡ true → (a ≡ true) × (b ≡ true)
+both true b e = (refl, e)
+both false b e = let z : _≡_ {A = ℕ} 0 1 = cc in absurd (omega arith)
+
+pub when-none : (n : ℕ) (b : Bool) → suc n when b ≡ 0 → b ≡ false
+when-none n true e = absurd (omega arith)
+when-none n false e = refl
+
+pub else-none : (a b : ℕ) → (a else b) ≡ 0 → (a ≡ 0) × (b ≡ 0)
+else-none zero b e = (refl, e)
+else-none (suc a) b e = absurd (omega arith)
+
+-- What a refusal found by its rule makes of an outcome.
+module _ {A : Type 0} (value : A) where
+  pub refuses : {n m : ℕ} → n ≡ m → (n ≡ 0 → ⊥) → refused n ≡ unless m value
+  unfolding unless
+  refuses {n} e some = rw (← e) (go n some)
+    where
+      go : (k : ℕ) → (k ≡ 0 → ⊥) → refused k ≡ unless k value
+      go zero h = absurd (h refl)
+      go (suc k) h = refl
+
+  pub refuses-first : {n m : ℕ} (later : ℕ) → n ≡ m → (n ≡ 0 → ⊥) → refused n ≡ unless (m else later) value
+  unfolding unless
+  refuses-first {n} later e some = rw (← e) (go n some)
+    where
+      go : (k : ℕ) → (k ≡ 0 → ⊥) → refused k ≡ unless (k else later) value
+      go zero h = absurd (h refl)
+      go (suc k) h = refl
+
+  pub does : {n : ℕ} → n ≡ 0 → unless n value ≡ done value
+  unfolding unless
+  does e = rw e
+
+-- what is done was not refused
+pub was-done : {A : Type 0} (n : ℕ) (value result : A) → unless n value ≡ done result → (n ≡ 0) × (value ≡ result)
+unfolding unless
+was-done zero value result e = (refl, cc)
+was-done (suc n) value result e = let z : _≡_ {A = ℕ} 0 1 = cc in absurd (omega arith)

@@ -1,0 +1,24 @@
+-- Document 01, "Refusal numbers": how a number is found, and what an entry point may answer.
+use mathlib.Core.Bool.{Bool, cond}
+use Prim.Native.Nat.{ℕ, zero, suc}
+
+-- "given exactly when": the number where its condition holds, and no refusal, 0, where it does not
+infix 30 _when_
+abbrev pub _when_ : ℕ → Bool → ℕ
+_when_ n holds = cond holds n 0
+
+-- "where several hold, the lowest is given": the first of two refusals, or the second where the first is none
+infixr 20 _else_
+abbrev pub _else_ : ℕ → ℕ → ℕ
+_else_ zero later = later
+_else_ (suc n) later = suc n
+
+-- an entry point does the work and hands out a value, or refuses with one number
+pub data Outcome (A : Type 0) : Type 0 where
+  done : A → Outcome A
+  refused : ℕ → Outcome A
+
+-- the value, unless there is a refusal
+unfoldable pub unless : {A : Type 0} → ℕ → A → Outcome A
+unless zero value = done value
+unless (suc n) value = refused (suc n)

@@ -1,0 +1,34 @@
+// The refusal numbers of document 01. Every crate hands out these numbers and no others.
+pub const NONE: u8 = 0;
+
+pub const LENGTH: u8 = 1;
+
+pub const FRAME: u8 = 2;
+
+pub const FIXED_CHARACTER: u8 = 3;
+
+pub const DIGIT: u8 = 4;
+
+pub const STATUS_OR_WEEKDAY: u8 = 5;
+
+pub const OUT_OF_RANGE: u8 = 6;
+
+pub const NO_SUCH_DAY: u8 = 7;
+
+pub const WEEKDAY_DISAGREES: u8 = 8;
+
+pub const STX_INSIDE: u8 = 9;
+
+pub const TOO_LONG: u8 = 10;
+
+pub const ENDED_INSIDE: u8 = 11;
+
+pub const OUTSIDE_CALENDAR: u8 = 12;
+
+pub const BUFFER_SHORT: u8 = 13;
+
+pub const NO_DATE: u8 = 14;
+
+pub const STATE_ILL_FORMED: u8 = 15;
+
+pub const NOT_OFFERED: u8 = 16;
