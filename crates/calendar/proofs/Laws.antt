@@ -8,9 +8,12 @@ use borrow.Author.Tests.{lt-leb, leb-false}
 use Rattle.refusals.proofs.Laws.{was-done, does, when-none, else-none}
 use Rattle.refusals.specs.Refusals.{_when_, _else_, Outcome, done, refused, unless}
 use Rattle.calendar.specs.Calendar.{dateRefusal, dayOf, dayNumber, dateAt, dateOf, weekdayOf, isLastDay, dayAfter, nextDay}
+use Rattle.calendar.specs.TimeOfDay.{timeRefusal, secondsOf, secondOfDay}
 use Rattle.calendar.specs.declared.date.Date.{Date}
+use Rattle.calendar.specs.declared.time.Time.{Time}
 use Rattle.calendar.proofs.Months.{held}
 use Rattle.calendar.proofs.Dates.{good, not-refused, day-within, date-at-day, good-at, day-of-date-at, day-after}
+use Rattle.calendar.proofs.Times.{good as time-good, seconds-within}
 
 -- the date of a date's day number is that date
 pub date-of-day-number : (date : Date) (day : ℕ) → dayNumber date ≡ done day → dateOf day ≡ done date
@@ -28,6 +31,19 @@ day-number-of-date day date e =
     let told = was-done (12 when leb 36525 day) (dateAt day) date e in
     let h = held day (leb-false 36525 day (when-none 11 _ (told .0))) in
     rw (← told .1) (does (dayOf (dateAt day)) (not-refused (dateAt day) (good-at day h)) ∙ ap done (day-of-date-at day h))
+
+-- a day number lies within the calendar, and the second of the day within the day
+pub day-number-bound : (date : Date) (day : ℕ) → dayNumber date ≡ done day → day < 36525
+unfolding dayNumber
+day-number-bound date day e =
+    let told = was-done (dateRefusal date) (dayOf date) day e in
+    rw (told .1) at (day-within date (good date (told .0)))
+
+pub second-bound : (time : Time) (second : ℕ) → secondOfDay time ≡ done second → second < 86400
+unfolding secondOfDay
+second-bound time second e =
+    let told = was-done (timeRefusal time) (secondsOf time) second e in
+    rw (told .1) at (seconds-within time (time-good time (told .0)))
 
 -- every day of the calendar has a date, and no other day has one
 pub in-calendar : (day : ℕ) → day < 36525 → dateOf day ≡ done (dateAt day)

@@ -1,10 +1,11 @@
 -- Laws of the time of day: the next second. Assumes nothing.
 use mathlib.Core.Path.{_≡_, refl, ap, sym, _∙_}
-use mathlib.Core.Bool.{Bool, true, false, cond, _&&_, and-false}
+use mathlib.Core.Bool.{Bool, true, false, not, cond, _&&_, and-false}
 use Prim.Native.Nat.{ℕ, _+_, _*_, _≤_, _<_}
 use native.Mathlib.Omega.{arith}
 use lib.Dec.{ltb, eqb}
 use borrow.Author.Tests.{le-leb, ltb-true, ltb-false, eq-eqb, ne-eqb, not-false}
+use Rattle.refusals.specs.Refusals.{_when_}
 use Rattle.refusals.proofs.Laws.{both, when-none}
 use Rattle.calendar.specs.TimeOfDay.{timeInRange, timeRefusal, secondsOf, timeAfter, isLastSecond}
 use Rattle.calendar.specs.declared.time.Time.{Time}
@@ -39,6 +40,26 @@ in-range time g =
 pub not-refused : (time : Time) → Good time → timeRefusal time ≡ 0
 unfolding timeRefusal
 not-refused time g = rw (in-range time g)
+
+pub range-not-refused : (time : Time) → timeInRange time ≡ true → timeRefusal time ≡ 0
+unfolding timeRefusal
+range-not-refused time e = rw e
+
+pub seconds-within : (time : Time) → Good time → secondsOf time < 86400
+unfolding secondsOf
+seconds-within time g = omega (arith, g)
+
+pub out-of-range : (time : Time) → (timeRefusal time ≡ 0 → ⊥) → timeInRange time ≡ false
+unfolding timeRefusal
+out-of-range time some = go (timeInRange time) some
+  where
+    go : (t : Bool) → ((6 when not t) ≡ 0 → ⊥) → t ≡ false
+    go true h = absurd (h refl)
+    go false h = refl
+
+pub range : (time : Time) → timeRefusal time ≡ 0 → timeInRange time ≡ true
+unfolding timeRefusal
+range time none = not-false _ (when-none 5 _ none)
 
 -- The last second of a day, told by the tests that the next second goes by.
 module _ (time : Time) where

@@ -45,3 +45,23 @@ pub was-done : {A : Type 0} (n : ℕ) (value result : A) → unless n value ≡ 
 unfolding unless
 was-done zero value result e = (refl, cc)
 was-done (suc n) value result e = let z : _≡_ {A = ℕ} 0 1 = cc in absurd (omega arith)
+
+-- what was refused was refused with the number that the rule gives
+pub was-refused : {A : Type 0} (n m : ℕ) (value : A) → unless n value ≡ refused m → n ≡ m
+unfolding unless
+was-refused zero m value e = let z : _≡_ {A = ℕ} 0 1 = cc in absurd (omega arith)
+was-refused (suc n) m value e = cc
+
+-- and some rule gave it
+pub refused-some : {A : Type 0} (n m : ℕ) (value : A) → unless n value ≡ refused m → m ≡ 0 → ⊥
+unfolding unless
+refused-some zero m value e none = let z : _≡_ {A = ℕ} 0 1 = cc in absurd (omega arith)
+refused-some (suc n) m value e none = let z : suc n ≡ m = cc in absurd (omega arith)
+
+pub else-assoc : (a b later : ℕ) → (a else (b else later)) ≡ ((a else b) else later)
+else-assoc zero b later = refl
+else-assoc (suc a) b later = refl
+
+pub else-some : (a later : ℕ) → (a ≡ 0 → ⊥) → (a else later) ≡ a
+else-some zero later some = absurd (some refl)
+else-some (suc a) later some = refl

@@ -22,3 +22,8 @@ pub data Outcome (A : Type 0) : Type 0 where
 unfoldable pub unless : {A : Type 0} → ℕ → A → Outcome A
 unless zero value = done value
 unless (suc n) value = refused (suc n)
+
+-- one thing after another: the second is done with what the first hands out, unless the first is refused
+abbrev pub after : {A B : Type 0} → Outcome A → (A → Outcome B) → Outcome B
+after (done value) next = next value
+after (refused n) next = refused n

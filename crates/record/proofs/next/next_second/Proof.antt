@@ -1,0 +1,132 @@
+-- `record::next::next_second` meets its contract: each way it ends is a law of the definition.
+use mathlib.Core.Path.{sym, ap, _∙_}
+use mathlib.Core.Bool.{true, false}
+use Rattle.refusals.proofs.Laws.{refuses-first}
+use Rattle.calendar.specs.Answers.{dateAnswer, nextSecondAnswer}
+use Rattle.record.specs.Next.{nextSecondOf}
+use Rattle.calendar.proofs.Times.{range-not-refused}
+use Rattle.record.proofs.RuleLaws.{good}
+use Rattle.record.proofs.NextLaws.{same-day, next-day, calendar-ends, time-goes-on, goes-on}
+use borrow.Author.Needs.{needs}
+use Rattle.record.proofs.next.next_second.Statement.{statement}
+use Rattle.record.proofs.next.next_second.Tie as tie
+
+refusal-requires : tie.Need-refusal-requires
+refusal-requires c κs = search needs
+
+returns : tie.Need-returns
+unfolding nextSecondOf
+returns c = refuses-first _ _ (c .before .refusal .ensures) (c .if1 .taken)
+
+enum-known-rec : tie.Need-enum-known-rec
+enum-known-rec c = search needs
+
+next-second-requires : tie.Need-next-second-requires
+next-second-requires c κs = search needs
+
+enum-known-next : tie.Need-enum-known-next
+enum-known-next c = search needs
+
+enum-known-next-2 : tie.Need-enum-known-next-2
+enum-known-next-2 c = search needs
+
+enum-known-number : tie.Need-enum-known-number
+enum-known-number c = search needs
+
+enum-known-rec-2 : tie.Need-enum-known-rec-2
+enum-known-rec-2 c = search needs
+
+next-second-requires-2 : tie.Need-next-second-requires-2
+next-second-requires-2 c κs = search needs
+
+enum-known-next-3 : tie.Need-enum-known-next-3
+enum-known-next-3 c = search needs
+
+enum-known-next-4 : tie.Need-enum-known-next-4
+enum-known-next-4 c = search needs
+
+next-day-requires : tie.Need-next-day-requires
+next-day-requires c κs = search needs
+
+enum-known-day : tie.Need-enum-known-day
+enum-known-day c = search needs
+
+add-t30 : tie.Need-add-t30
+add-t30 c = search needs
+
+enum-known-number-2 : tie.Need-enum-known-number-2
+enum-known-number-2 c = search needs
+
+enum-known-number-3 : tie.Need-enum-known-number-3
+enum-known-number-3 c = search needs
+
+returns-2 : tie.Need-returns-2
+returns-2 c =
+    let none = rw (c .before .before .before .before .before .rec .given .1) at (sym (c .before .before .before .before .before .before .before .before .refusal .ensures) ∙ c .before .before .before .before .before .before .before .if1 .left) in
+    time-goes-on _ _ _ false none (sym (c .before .before .before .next-second .ensures) ∙ ap nextSecondAnswer (c .before .next .given .1))
+    ∙ ap nextSecondOf (sym (c .before .before .before .before .before .rec .given .1))
+
+returns-3 : tie.Need-returns-3
+returns-3 c =
+    let none = rw (c .before .before .before .before .before .rec .given .1) at (sym (c .before .before .before .before .before .before .before .before .refusal .ensures) ∙ c .before .before .before .before .before .before .before .if1 .left) in
+    time-goes-on _ _ _ true none (sym (c .before .before .before .next-second .ensures) ∙ ap nextSecondAnswer (c .before .next2 .given .1))
+    ∙ ap nextSecondOf (sym (c .before .before .before .before .before .rec .given .1))
+
+returns-4 : tie.Need-returns-4
+returns-4 c =
+    let none = rw (c .before .before .before .before .before .rec .given .1) at (sym (c .before .before .before .before .before .before .before .before .refusal .ensures) ∙ c .before .before .before .before .before .before .before .if1 .left) in
+    absurd (goes-on _ _ none (sym (c .before .before .before .next-second .ensures) ∙ ap nextSecondAnswer (c .before .number .given .1)))
+
+returns-5 : tie.Need-returns-5
+returns-5 c =
+    let none = rw (c .before .before .before .before .before .rec2 .given .1) at (sym (c .before .before .before .before .before .before .before .before .refusal .ensures) ∙ c .before .before .before .before .before .before .before .if1 .left) in
+    same-day _ _ _ _ _ none _ (sym (c .before .before .before .next-second2 .ensures) ∙ ap nextSecondAnswer (c .before .next3 .given .1))
+    ∙ ap nextSecondOf (sym (c .before .before .before .before .before .rec2 .given .1))
+
+returns-6 : tie.Need-returns-6
+returns-6 c =
+    let none = rw (c .before .before .before .before .before .before .before .before .before .rec2 .given .1) at (sym (c .before .before .before .before .before .before .before .before .before .before .before .before .refusal .ensures) ∙ c .before .before .before .before .before .before .before .before .before .before .before .if1 .left) in
+    let time = sym (c .before .before .before .before .before .before .before .next-second2 .ensures) ∙ ap nextSecondAnswer (c .before .before .before .before .before .next4 .given .1) in
+    next-day _ _ _ _ _ none _ _ time (sym (c .before .before .before .next-day .ensures) ∙ ap dateAnswer (c .before .day .given .1))
+    ∙ ap nextSecondOf (sym (c .before .before .before .before .before .before .before .before .before .rec2 .given .1))
+
+returns-7 : tie.Need-returns-7
+returns-7 c =
+    let none = rw (c .before .before .before .before .before .before .before .before .before .rec2 .given .1) at (sym (c .before .before .before .before .before .before .before .before .before .before .before .before .refusal .ensures) ∙ c .before .before .before .before .before .before .before .before .before .before .before .if1 .left) in
+    let time = sym (c .before .before .before .before .before .before .before .next-second2 .ensures) ∙ ap nextSecondAnswer (c .before .before .before .before .before .next4 .given .1) in
+    calendar-ends _ _ _ _ _ none _ _ time (sym (c .before .before .before .next-day .ensures) ∙ ap dateAnswer (c .before .number2 .given .1))
+    ∙ ap nextSecondOf (sym (c .before .before .before .before .before .before .before .before .before .rec2 .given .1))
+
+returns-8 : tie.Need-returns-8
+returns-8 c =
+    let none = rw (c .before .before .before .before .before .rec2 .given .1) at (sym (c .before .before .before .before .before .before .before .before .refusal .ensures) ∙ c .before .before .before .before .before .before .before .if1 .left) in
+    absurd
+    (goes-on _ _ (range-not-refused _ (good _ _ _ _ _ none .time-in-range)) (sym (c .before .before .before .next-second2 .ensures) ∙ ap nextSecondAnswer (c .before .number3 .given .1)))
+
+pub next-second-spec : {M : Type 1} → statement M
+next-second-spec =
+    tie.close
+    (tie.spec
+    refusal-requires
+    returns
+    enum-known-rec
+    next-second-requires
+    enum-known-next
+    enum-known-next-2
+    enum-known-number
+    enum-known-rec-2
+    next-second-requires-2
+    enum-known-next-3
+    enum-known-next-4
+    next-day-requires
+    enum-known-day
+    add-t30
+    enum-known-number-2
+    enum-known-number-3
+    returns-2
+    returns-3
+    returns-4
+    returns-5
+    returns-6
+    returns-7
+    returns-8)

@@ -1,0 +1,19 @@
+-- `record::utc::season_shift` meets its contract.
+use Rattle.record.specs.Utc.{seasonShift}
+use Rattle.record.proofs.utc.season_shift.Statement.{statement}
+use Rattle.record.proofs.utc.season_shift.Tie as tie
+
+returns : tie.Need-returns
+unfolding seasonShift
+returns c = rw (c .if1 .taken)
+
+returns-2 : tie.Need-returns-2
+unfolding seasonShift
+returns-2 c = rw (c .before .if1 .left, c .if2 .taken)
+
+returns-3 : tie.Need-returns-3
+unfolding seasonShift
+returns-3 c = rw (c .before .if1 .left, c .if2 .left)
+
+pub season-shift-spec : {M : Type 1} → statement M
+season-shift-spec = tie.close (tie.spec returns returns-2 returns-3)

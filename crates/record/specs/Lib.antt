@@ -1,0 +1,4 @@
+pub mod Rule
+pub mod Next
+pub mod Utc
+pub mod Answers

@@ -1,0 +1,60 @@
+-- Document 01, "The seven layouts": what the fields of a record may be, and the one rule that refuses a record.
+use mathlib.Core.Bool.{Bool, true, false, not, _&&_, _||_}
+use Prim.Native.Nat.{ℕ}
+use lib.Dec.{eqb}
+use Rattle.refusals.specs.Refusals.{_when_, _else_}
+use Rattle.calendar.specs.Ranges.{inside}
+use Rattle.calendar.specs.Calendar.{dateInRange, dayExists, dayOf, weekdayOf}
+use Rattle.calendar.specs.TimeOfDay.{timeInRange, timeRefusal}
+use Rattle.calendar.specs.declared.date.Date.{Date}
+use Rattle.calendar.specs.declared.time.Time.{Time}
+use Rattle.record.specs.declared.DatedLayout.{DatedLayout}
+use Rattle.record.specs.declared.DatedLayout.the-variants.{L6021, L2000, L5500, L5050}
+use Rattle.record.specs.declared.Reception.{Reception}
+use Rattle.record.specs.declared.Reception.the-variants.{Invalid, Crystal, Radio, High}
+use Rattle.record.specs.declared.Status.{Status}
+use Rattle.record.specs.declared.Record.{Record}
+use Rattle.record.specs.declared.Record.the-variants.{Dated, TimeOnly}
+
+-- "b0 crystal, else radio": the status of 5500 and 5050 knows no other reception
+abbrev pub crystalOrRadio : Reception → Bool
+crystalOrRadio Invalid = false
+crystalOrRadio Crystal = true
+crystalOrRadio Radio = true
+crystalOrRadio High = false
+
+-- "b3 UTC, and then b2 and b1 must be 0": with UTC neither summer nor an announcement
+unfoldable pub plainUtc : Status → Bool
+plainUtc status = not (status .utc) || not (status .daylight || status .announced)
+
+-- what the status table of 5500 and 5050 can say
+unfoldable pub tableCanSay : Status → Bool
+tableCanSay status = crystalOrRadio (status .reception) && plainUtc status
+
+-- "all sixteen are legal" in 6021 and 2000
+abbrev pub statusAllowed : DatedLayout → Status → Bool
+statusAllowed L6021 status = true
+statusAllowed L2000 status = true
+statusAllowed L5500 status = tableCanSay status
+statusAllowed L5050 status = tableCanSay status
+
+-- "weekday is 1 to 7"
+unfoldable pub weekdayAllowed : ℕ → Bool
+weekdayAllowed weekday = inside 1 weekday 7
+
+-- "weekday equal to the calendar's"
+unfoldable pub weekdayAgrees : ℕ → Date → Bool
+weekdayAgrees weekday date = eqb (weekdayOf (dayOf date)) weekday
+
+-- 5 status or weekday not allowed; 6 out of range; 7 no such day; 8 weekday disagrees
+unfoldable pub datedRefusal : DatedLayout → Status → ℕ → Date → Time → ℕ
+datedRefusal layout status weekday date time =
+    5 when not (statusAllowed layout status && weekdayAllowed weekday)
+    else 6 when not (timeInRange time && dateInRange date)
+    else 7 when not (dayExists date)
+    else 8 when not (weekdayAgrees weekday date)
+
+-- "a time-only record is checked for its time alone"
+abbrev pub refusalOf : Record → ℕ
+refusalOf (Dated layout status weekday date time) = datedRefusal layout status weekday date time
+refusalOf (TimeOnly layout time) = timeRefusal time

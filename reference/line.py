@@ -1,0 +1,149 @@
+"""The line reader, byte by byte, as a value that is handed in and handed back."""
+
+from typing import NamedTuple, Optional, Tuple, Union
+
+from layouts import ETX, STX
+from records import Dated, TimeOnly
+from refusals import ENDED_INSIDE, STATE, STX_INSIDE, TOO_LONG, Refused
+from telegrams import read_telegram
+
+PLACES = 24
+WRAP = 2 ** 32
+
+
+class State(NamedTuple):
+    """24 byte places of which the first `length` are held, and the free running counts."""
+    places: Tuple[int, ...]
+    length: int
+    fed: int
+    stray: int
+    start: int
+
+
+class Event(NamedTuple):
+    """Position of the first byte, number of bytes, and a record or a refusal number."""
+    start: int
+    length: int
+    outcome: Union[Dated, TimeOnly, int]
+
+
+class Fed(NamedTuple):
+    """The next state, how many bytes of the piece were taken, and the event if any."""
+    state: State
+    taken: int
+    event: Optional[Event]
+
+
+def state_of(places, length, fed, stray, start):
+    """A state from its parts, well formed or not."""
+    return State(tuple(places), length, fed, stray, start)
+
+
+def fresh():
+    """Holds nothing, all counts 0."""
+    return state_of([0] * PLACES, 0, 0, 0, 0)
+
+
+# --- well formed ---
+
+def held_of(state):
+    """The held bytes."""
+    return bytes(state.places[:state.length])
+
+
+def at_most_24_held(state):
+    return 0 <= state.length <= PLACES
+
+
+def begins_with_its_only_stx(state):
+    """Of the held bytes the first is STX, and no other is STX or ETX."""
+    held = held_of(state)
+    return not held or (held[0] == STX and STX not in held[1:] and ETX not in held[1:])
+
+
+def zero_beyond(state):
+    """The places beyond the held ones are zero."""
+    return not any(state.places[state.length:])
+
+
+def start_is_fed_less_held(state):
+    return state.start == (state.fed - state.length) % WRAP
+
+
+def well_formed(state):
+    """All four clauses."""
+    return (at_most_24_held(state) and begins_with_its_only_stx(state)
+            and zero_beyond(state) and start_is_fed_less_held(state))
+
+
+def check_state(state):
+    """15 where the state is not well formed."""
+    if not well_formed(state):
+        raise Refused(STATE)
+
+
+# --- the moves a reader makes ---
+
+def with_held(held, fed, stray):
+    """The well formed state that holds these bytes."""
+    places = list(held) + [0] * (PLACES - len(held))
+    return state_of(places, len(held), fed, stray, (fed - len(held)) % WRAP)
+
+
+def event_of(state, length, outcome):
+    """An event of the telegram that the state has begun."""
+    return Event(state.start, length, outcome)
+
+
+def judged(telegram):
+    """The record of an ended telegram, or the number it is refused with."""
+    try:
+        return read_telegram(telegram, True)
+    except Refused as refused:
+        return refused.number
+
+
+def take_outside(state, byte, fed):
+    """Outside a telegram STX begins one, any other byte is stray."""
+    if byte == STX:
+        return with_held([STX], fed, state.stray), None
+    return with_held([], fed, (state.stray + 1) % WRAP), None
+
+
+def take_inside(state, byte, fed):
+    """Inside a telegram: ETX ends it, STX cuts it off and begins the next, any other byte
+    is held, or is the 25th and one too many."""
+    held = held_of(state)
+    if byte == ETX:
+        return (with_held([], fed, state.stray),
+                event_of(state, len(held) + 1, judged(held + bytes([ETX]))))
+    if byte == STX:
+        return with_held([STX], fed, state.stray), event_of(state, len(held), STX_INSIDE)
+    if len(held) == PLACES:
+        return with_held([], fed, state.stray), event_of(state, len(held) + 1, TOO_LONG)
+    return with_held(held + bytes([byte]), fed, state.stray), None
+
+
+def take(state, byte):
+    """One byte: the next state and the event it gives, if any."""
+    fed = (state.fed + 1) % WRAP
+    return take_inside(state, byte, fed) if state.length else take_outside(state, byte, fed)
+
+
+# --- the two calls ---
+
+def feed(state, piece):
+    """Takes bytes up to and with the first that gives an event, or all; 15 takes none."""
+    check_state(state)
+    for taken, byte in enumerate(piece, start=1):
+        state, event = take(state, byte)
+        if event is not None:
+            return Fed(state, taken, event)
+    return Fed(state, len(piece), None)
+
+
+def end(state):
+    """The line's end: the state outside, and 11 for the bytes held if any; or 15."""
+    check_state(state)
+    event = event_of(state, state.length, ENDED_INSIDE) if state.length else None
+    return with_held([], state.fed, state.stray), event

@@ -1,0 +1,166 @@
+"""Records: a layout and exactly the fields that layout carries.
+
+A Dated record has layout 6021, 2000, 5500 or 5050, a TimeOnly record one of the
+three others. Field values may be any whole numbers; the one rule below tells which
+records are good.
+"""
+
+from typing import NamedTuple
+
+import days
+from days import Date, Time
+from layouts import TIME_ONLY
+from refusals import (CALENDAR, NO_DATE, NO_SUCH_DAY, RANGE, STATUS_OR_WEEKDAY, WEEKDAY,
+                      Refused, check)
+from status import Flags, flags_allowed
+
+STANDARD_SHIFT = 3600
+DAYLIGHT_SHIFT = 7200
+
+
+class Dated(NamedTuple):
+    layout: str
+    reception: str   # invalid, crystal, radio or high
+    daylight: bool
+    announced: bool
+    utc: bool
+    weekday: int     # 1 Monday to 7 Sunday, without the UTC bit
+    hour: int
+    minute: int
+    second: int
+    day: int
+    month: int
+    year: int        # all four digits
+
+
+class TimeOnly(NamedTuple):
+    layout: str
+    hour: int
+    minute: int
+    second: int
+
+
+class LocalSeconds(NamedTuple):
+    """Seconds since 1.1.1980 00:00 as the clock on the wall counts them."""
+    count: int
+
+
+class UtcSeconds(NamedTuple):
+    """Seconds since 1.1.1980 00:00 UTC."""
+    count: int
+
+
+# --- the parts of a record ---
+
+def is_time_only(record):
+    """Whether the layout carries nothing but the time."""
+    return record.layout in TIME_ONLY
+
+
+def time_of(record):
+    return Time(record.hour, record.minute, record.second)
+
+
+def date_of(record):
+    return Date(record.year, record.month, record.day)
+
+
+def flags_of(record):
+    return Flags(record.reception, record.daylight, record.announced, record.utc)
+
+
+# --- the one refusal rule of a record ---
+
+def status_not_allowed(record):
+    """Condition 5: the layout's status cannot say it. Time-only layouts have none."""
+    return not is_time_only(record) and not flags_allowed(record.layout, flags_of(record))
+
+
+def weekday_not_allowed(record):
+    """Condition 5: the weekday is none of 1 to 7."""
+    return not is_time_only(record) and not 1 <= record.weekday <= 7
+
+
+def out_of_range(record):
+    """Condition 6: the time, and the date where there is one."""
+    if days.time_out_of_range(time_of(record)):
+        return True
+    return not is_time_only(record) and days.date_out_of_range(date_of(record))
+
+
+def no_such_day(record):
+    """Condition 7."""
+    return not is_time_only(record) and days.no_such_day(date_of(record))
+
+
+def weekday_disagrees(record):
+    """Condition 8."""
+    return not is_time_only(record) and days.weekday_of(date_of(record)) != record.weekday
+
+
+RECORD_CONDITIONS = (
+    (STATUS_OR_WEEKDAY, status_not_allowed),
+    (STATUS_OR_WEEKDAY, weekday_not_allowed),
+    (RANGE, out_of_range),
+    (NO_SUCH_DAY, no_such_day),
+    (WEEKDAY, weekday_disagrees),
+)
+
+
+def check_record(record):
+    """Refuses a record that is not good with the lowest of 5 to 8 that holds."""
+    check(RECORD_CONDITIONS, record)
+
+
+# --- one second later ---
+
+def next_second(record):
+    """The record of the next second, date and weekday included; 5 to 8, then 12.
+
+    Season and status stay. A time-only record goes from 23:59:59 to 00:00:00.
+    """
+    check_record(record)
+    time, midnight = days.next_second(time_of(record))
+    later = record._replace(hour=time.hour, minute=time.minute, second=time.second)
+    if is_time_only(record) or not midnight:
+        return later
+    date = days.next_day(date_of(record))
+    return later._replace(year=date.year, month=date.month, day=date.day,
+                          weekday=days.weekday_of(date))
+
+
+def step_clock(record):
+    """The station clock one second later; 5 to 8, 12, and 14 where there is no date.
+
+    The caller puts the answer in place of the record; refused, the record stays.
+    """
+    check_record(record)
+    if is_time_only(record):
+        raise Refused(NO_DATE)
+    return next_second(record)
+
+
+# --- UTC seconds ---
+
+def count_of(record):
+    """86,400 times the day number plus the second of the day, on the record's own scale."""
+    return (days.SECONDS_PER_DAY * days.day_number(date_of(record))
+            + days.second_of_day(time_of(record)))
+
+
+def to_utc(local, daylight):
+    """The season's shift, the only way from local to UTC; 12 before the calendar's start."""
+    count = local.count - (DAYLIGHT_SHIFT if daylight else STANDARD_SHIFT)
+    if count < 0:
+        raise Refused(CALENDAR)
+    return UtcSeconds(count)
+
+
+def utc_seconds(record):
+    """UTC seconds of a record; 5 to 8, then 12, then 14. A record marked UTC is not shifted."""
+    check_record(record)
+    if is_time_only(record):
+        raise Refused(NO_DATE)
+    if record.utc:
+        return UtcSeconds(count_of(record))
+    return to_utc(LocalSeconds(count_of(record)), record.daylight)

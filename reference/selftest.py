@@ -1,0 +1,464 @@
+"""Runs the examples of the document and of the manuals, and properties on random data.
+
+    python3 -B selftest.py [seed]
+
+Prints one line that begins with ok, or stops at the first failure and exits with 1.
+"""
+
+import random
+import re
+import sys
+
+sys.dont_write_bytecode = True  # leaves no files behind
+
+import days
+import layouts
+import line
+import listing
+import manual_examples
+import parameter
+import records
+import status
+import telegrams
+from days import Date, Time
+from records import Dated, TimeOnly
+from refusals import outcome
+from telegrams import Setting, Written
+
+STX, ETX = b"\x02", b"\x03"
+LF_CR, CR_LF = b"\n\r", b"\r\n"
+WRAP = line.WRAP
+SETTINGS = [Setting(control, advance) for control in (False, True) for advance in (False, True)]
+
+counts = {}
+
+
+def same(group, got, wanted):
+    """One check: counts it, or stops."""
+    counts[group] = counts.get(group, 0) + 1
+    if got != wanted:
+        print(f"failed in {group}: got {got!r}, wanted {wanted!r}")
+        sys.exit(1)
+
+
+def read(telegram, control=True):
+    """A record, or the number."""
+    record, number = outcome(telegrams.read_telegram, telegram, control)
+    return number if record is None else record
+
+
+def framed(inner):
+    return STX + inner + ETX
+
+
+# --- the document's own examples ---
+
+def listing_examples():
+    captured = b"x" + framed(b"E3123456170496" + LF_CR) + STX + b"12"
+    same("listing", listing.listing(captured),
+         b"start;kind;date;time;weekday;status\n"
+         b"1;6021;1996-04-17;12:34:56;3;high,daylight\n"
+         b"19;refused 11\n"
+         b"stray 1\n")
+    same("listing", listing.listing(b""), listing.HEADER + b"stray 0\n")
+    same("listing", listing.listing(framed(b"01 02 03 " + CR_LF)),
+         listing.HEADER + b"0;5050t;-;01:02:03;-;-\nstray 0\n")
+    same("listing", listing.listing(framed(b"DB123456030196" + LF_CR)),
+         listing.HEADER + b"0;6021;1996-01-03;12:34:56;3;high,standard,utc,announced\n"
+         b"stray 0\n")
+
+
+def boundary_table():
+    january = Dated("5500", "crystal", False, False, False, 3, 12, 34, 56, 3, 1, 1996)
+    table = [
+        ("P1", b"E3123456170496" + LF_CR,
+         Dated("6021", "high", True, False, False, 3, 12, 34, 56, 17, 4, 1996)),
+        ("P2", b"E4123456170496" + LF_CR, 8),
+        ("P3", b"1 123456 030196 3" + CR_LF, january),
+        ("P4", b"3 123456 030196 3" + CR_LF, january._replace(announced=True)),
+        ("P5", b"A 123456 030196 3" + CR_LF, 5),
+        ("P6", b"C6120000290297" + LF_CR, 7),
+        ("P7", b"C2120000290200" + LF_CR,
+         Dated("6021", "high", False, False, False, 2, 12, 0, 0, 29, 2, 2000)),
+        ("P8", b"235959" + LF_CR, TimeOnly("6021t", 23, 59, 59)),
+        ("P9", b"235959" + CR_LF, TimeOnly("5500t", 23, 59, 59)),
+        ("P10", b"240000" + LF_CR, 6),
+        ("P11", b"CB123456030196" + LF_CR,
+         Dated("6021", "high", False, False, True, 3, 12, 34, 56, 3, 1, 1996)),
+    ]
+    for name, inner, wanted in table:
+        same("boundary table", (name, read(framed(inner))), (name, wanted))
+        same("boundary table", (name, read(inner, control=False)), (name, wanted))
+    same("boundary table", parameter.read_parameter(0xA6),
+         parameter.Parameter(False, 8, "none", 2, 600))
+    half_past = Dated("6021", "radio", False, False, False, 2, 0, 30, 0, 1, 1, 1980)
+    same("boundary table", outcome(records.utc_seconds, half_past), (None, 12))
+
+
+def examples_of_the_manuals():
+    for an_example, got in manual_examples.all_outcomes():
+        same("manual examples", manual_examples.in_words(got), an_example.expected)
+        if an_example.inside:
+            same("manual examples", isinstance(got, Dated), True)
+    for _, _, byte in manual_examples.PARAMETER_EXAMPLES:
+        same("manual examples", parameter.read_parameter(byte).baud, 600)
+
+
+# --- the calendar ---
+
+def calendar():
+    same("calendar", (len(days.MONTH_STARTS), days.MONTH_STARTS[:3], days.MONTH_STARTS[-1]),
+         (1200, [0, 31, 60], 36494))
+    same("calendar", days.DAYS, 36525)
+    date, weekday = Date(1980, 1, 1), 2
+    for number in range(days.DAYS):
+        same("calendar", days.date_of(number), date)
+        same("calendar", days.day_number(date), number)
+        same("calendar", days.weekday_of_number(number), weekday)
+        if number < days.DAYS - 1:
+            date, weekday = days.next_day(date), weekday % 7 + 1
+    same("calendar", date, Date(2079, 12, 31))
+    same("calendar", outcome(days.next_day, date), (None, 12))
+    same("calendar", outcome(days.date_of, 36525), (None, 12))
+    for year, month, day, number in ((1979, 1, 1, 6), (2080, 1, 1, 6), (2000, 0, 1, 6),
+                                     (2000, 13, 1, 6), (2000, 1, 0, 6), (2000, 1, 32, 6),
+                                     (1999, 2, 29, 7), (2000, 2, 30, 7), (2000, 4, 31, 7)):
+        same("calendar", outcome(days.day_number, Date(year, month, day)), (None, number))
+    same("calendar", outcome(days.days_in_month, 2000, 13), (None, 6))
+
+
+def time_of_day():
+    time = Time(0, 0, 0)
+    for second in range(days.SECONDS_PER_DAY):
+        same("time of day", days.second_of_day(time), second)
+        time, midnight = days.next_second(time)
+        same("time of day", midnight, second == days.SECONDS_PER_DAY - 1)
+    same("time of day", time, Time(0, 0, 0))
+    same("time of day", outcome(days.next_second, Time(24, 0, 0)), (None, 6))
+
+
+# --- random records ---
+
+def good_record(dice):
+    """Any good record of any layout, with midnights and year ends more often than by chance."""
+    layout = dice.choice(list(layouts.LAYOUTS))
+    late = dice.random() < 0.3
+    time = (23, 59, 59) if late else (dice.randrange(24), dice.randrange(60), dice.randrange(60))
+    if layout in layouts.TIME_ONLY:
+        return TimeOnly(layout, *time)
+    number = dice.choice([dice.randrange(days.DAYS), 0, days.DAYS - 1])
+    date = days.date_of(number)
+    record = Dated(layout, dice.choice(status.RECEPTIONS), dice.random() < 0.5,
+                   dice.random() < 0.5, dice.random() < 0.5, days.weekday_of_number(number),
+                   *time, date.day, date.month, date.year)
+    if records.status_not_allowed(record):
+        record = record._replace(reception="crystal", utc=False)
+    return record
+
+
+def any_record(dice):
+    """A good record, mostly with fields put out of order."""
+    record = good_record(dice)
+    for _ in range(dice.randrange(4)):
+        field = dice.choice(record._fields[1:])
+        if field == "reception":
+            value = dice.choice(status.RECEPTIONS)
+        elif field in ("daylight", "announced", "utc"):
+            value = dice.random() < 0.5
+        else:
+            value = dice.choice([0, 1, 7, 8, 12, 13, 23, 24, 28, 29, 30, 31, 32, 59, 60, 99,
+                                 200, 255, 1979, 1980, 2079, 2080, 65535])
+        record = record._replace(**{field: value})
+    return record
+
+
+def read_back_what_was_written(dice, rounds):
+    for _ in range(rounds):
+        record, setting = good_record(dice), dice.choice(SETTINGS)
+        buffer = bytearray(dice.randbytes(40))
+        before = bytes(buffer)
+        wanted, number = (outcome(records.next_second, record) if setting.second_advance
+                          else (record, None))
+        used, refusal = outcome(telegrams.write_telegram, record, buffer, setting)
+        same("read back", refusal, number)
+        if refusal is not None:
+            same("read back", bytes(buffer), before)
+            continue
+        same("read back", used, layouts.length(record.layout, setting.control_characters))
+        same("read back", bytes(buffer[used:]), before[used:])
+        same("read back", read(bytes(buffer[:used]), setting.control_characters), wanted)
+
+
+def no_setting_named(dice, rounds):
+    for _ in range(rounds):
+        record = any_record(dice)
+        buffer = bytearray(dice.randbytes(dice.choice([0, 15, 16, 40])))
+        before = bytes(buffer)
+        number = outcome(records.check_record, record)[1]
+        if number is None and records.is_time_only(record):
+            number = 14
+        if number is None and len(buffer) < 16:
+            number = 13
+        used, refusal = outcome(telegrams.write_telegram, record, buffer)
+        same("no setting", refusal, number)
+        same("no setting", bytes(buffer[used or 0:]), before[used or 0:])
+        if refusal is None:
+            same("no setting", read(bytes(buffer[:16]), control=False),
+                 record._replace(layout="6021"))
+
+
+def refusals_of_records(dice, rounds):
+    """Writing, stepping and UTC seconds agree on 5 to 8 and differ only behind it."""
+    for _ in range(rounds):
+        record = any_record(dice)
+        bad = outcome(records.check_record, record)[1]
+        time_only = records.is_time_only(record)
+        later, number = outcome(records.next_second, record)
+        same("records", number in (bad, 12) if bad is None else number == bad, True)
+        same("records", outcome(records.step_clock, record),
+             (None, 14) if bad is None and time_only else (later, number))
+        utc, utc_number = outcome(records.utc_seconds, record)
+        if bad is not None or time_only:
+            same("records", utc_number, bad or 14)
+        elif utc is not None and later is not None:
+            same("records", records.utc_seconds(later).count, utc.count + 1)
+        for setting in SETTINGS:
+            buffer = bytearray(dice.randrange(30))
+            room = layouts.length(record.layout, setting.control_characters)
+            wanted = number if setting.second_advance else bad
+            if wanted is None and len(buffer) < room:
+                wanted = 13
+            same("records", outcome(telegrams.write_telegram, record, buffer, setting)[1], wanted)
+
+
+def several(dice, rounds):
+    for _ in range(rounds):
+        some = [good_record(dice) for _ in range(dice.randrange(6))]
+        if dice.random() < 0.3:
+            some.insert(dice.randrange(len(some) + 1), any_record(dice))
+        setting = dice.choice(SETTINGS + [None])
+        buffer = bytearray(dice.randrange(140))
+        room, wanted = bytearray(len(buffer)), Written(0, 0, None)
+        for record in some:
+            rest = room[wanted.used:]
+            used, number = outcome(telegrams.write_telegram, record, rest, setting)
+            if number is not None:
+                wanted = wanted._replace(refusal=number)
+                break
+            room[wanted.used:] = rest
+            wanted = Written(wanted.stand + 1, wanted.used + used, None)
+        same("several", telegrams.write_telegrams(some, buffer, setting), wanted)
+        same("several", buffer, room)
+
+
+# --- damaged telegrams ---
+
+LIKELY = b"0123456789ABCDEF \r\n\x02\x03G/:af"
+
+
+def telegram_of(record, control):
+    buffer = bytearray(layouts.length(record.layout, control))
+    telegrams.write_telegram(record, buffer, Setting(control, False))
+    return bytes(buffer)
+
+
+def damaged(dice, telegram):
+    """A telegram with some bytes changed, dropped or put in."""
+    telegram = bytearray(telegram)
+    for _ in range(dice.randrange(4)):
+        place, kind = dice.randrange(len(telegram)), dice.random()
+        if kind < 0.8:
+            telegram[place] = dice.choice(LIKELY)
+        elif kind < 0.9:
+            telegram.insert(place, dice.choice(LIKELY))
+        elif len(telegram) > 1:
+            del telegram[place]
+    return bytes(telegram)
+
+
+def what_reads_is_what_the_writer_makes(dice, rounds):
+    for _ in range(rounds):
+        control = dice.random() < 0.5
+        telegram = damaged(dice, telegram_of(good_record(dice), control))
+        got = read(telegram, control)
+        if isinstance(got, int):
+            same("damaged", 1 <= got <= 8, True)
+        else:
+            same("damaged", telegram_of(got, control), telegram)
+
+
+def status_and_weekday_characters():
+    """Every pair of characters in every dated layout reads as the writer would make it,
+    or is refused with 5, or with 8 for the date's other weekdays."""
+    characters = sorted(set(range(0x20, 0x50)) | set(b"abfx\x00\x02\x03\x7f\xff"))
+    for inner, state, weekday in ((b"??123456030196\n\r", 0, 1), (b"??12345603011996\n\r", 0, 1),
+                                  (b"? 123456 030196 ?\r\n", 0, 16),
+                                  (b"12 34 56 03 01 96 ?? \r\n", 18, 19)):
+        for first in characters:
+            for second in characters:
+                telegram = bytearray(framed(inner))
+                telegram[state + 1], telegram[weekday + 1] = first, second
+                got = read(bytes(telegram))
+                if isinstance(got, int):
+                    same("characters", got in (5, 8), True)
+                else:
+                    same("characters", telegram_of(got, True), bytes(telegram))
+
+
+# --- the line ---
+
+TOKENS = re.compile(
+    rb"(?P<ended>\x02[^\x02\x03]{0,23}\x03)|(?P<long>\x02[^\x02\x03]{24})"
+    rb"|(?P<cut>\x02[^\x02\x03]{0,23}(?=\x02))|(?P<open>\x02[^\x02\x03]{0,23}\Z)"
+    rb"|(?P<stray>[^\x02])", re.DOTALL)
+
+
+def events_by_pattern(captured):
+    """The events and the stray count of a whole line, found without the reader."""
+    events, stray = [], 0
+    for token in TOKENS.finditer(captured):
+        kind, telegram = token.lastgroup, token.group()
+        if kind == "stray":
+            stray += 1
+            continue
+        result = {"long": 10, "cut": 9, "open": 11}.get(kind) or read(telegram)
+        events.append(line.Event(token.start(), len(telegram), result))
+    return events, stray
+
+
+def random_line(dice):
+    parts = []
+    for _ in range(dice.randrange(8)):
+        telegram = telegram_of(good_record(dice), dice.random() < 0.9)
+        kind = dice.random()
+        if kind < 0.5:
+            telegram = damaged(dice, telegram)
+        elif kind < 0.6:
+            telegram = STX + dice.randbytes(dice.randrange(30))
+        parts.append(telegram)
+        parts.append(bytes(dice.choice(LIKELY) for _ in range(dice.choice([0, 0, 1, 30]))))
+    return b"".join(parts)
+
+
+def fed_in_pieces(dice, state, captured):
+    """Feeds a line cut at random places, piece after piece, the untaken rest again."""
+    events = []
+    while captured:
+        cut = dice.randrange(len(captured) + 1)
+        piece, captured = captured[:cut], captured[cut:]
+        while True:
+            state, taken, event = line.feed(state, piece)
+            same("line", line.well_formed(state), True)
+            piece = piece[taken:]
+            if event is None:
+                same("line", piece, b"")
+                break
+            events.append(event)
+    return state, events
+
+
+def lines(dice, rounds):
+    for _ in range(rounds):
+        captured = random_line(dice)
+        whole, stray = events_by_pattern(captured)
+        same("line", listing.events_of(captured)[0], whole)
+        state, events = fed_in_pieces(dice, line.fresh(), captured)
+        same("line", state, fed_in_pieces(dice, line.fresh(), captured)[0])
+        same("line", (state.fed, state.stray), (len(captured), stray))
+        same("line", state.fed, sum(event.length for event in events) + stray + state.length)
+        last, event = line.end(state)
+        same("line", last, line.state_of([0] * 24, 0, state.fed, stray, state.fed))
+        same("line", events + ([event] if event else []), whole)
+        same("line", line.end(last), (last, None))
+
+
+def wrapping_counts(dice, rounds):
+    """The same line behind counts that are about to wrap gives the same events, moved."""
+    for _ in range(rounds):
+        captured = random_line(dice)
+        fed, stray = (dice.choice([WRAP - 1, dice.randrange(WRAP - 200, WRAP)]) for _ in "ab")
+        moved = line.state_of([0] * 24, 0, fed, stray, fed)
+        state, events = fed_in_pieces(dice, line.fresh(), captured)
+        other, other_events = fed_in_pieces(dice, moved, captured)
+        same("wrap", other_events, [event._replace(start=(event.start + fed) % WRAP)
+                                    for event in events])
+        same("wrap", other, state._replace(fed=(state.fed + fed) % WRAP,
+                                           stray=(state.stray + stray) % WRAP,
+                                           start=(state.start + fed) % WRAP))
+
+
+def states_not_well_formed():
+    def state(held, length=None, beyond=0, fed=100, start=None):
+        places = (list(held) + [0] * 24)[:24]
+        length = len(held) if length is None else length
+        if beyond:
+            places[23] = beyond
+        return line.state_of(places, length, fed, 0,
+                             (fed - length) % WRAP if start is None else start)
+
+    full = b"\x02" + b"1" * 23
+    for good in (state(b""), state(b"\x02"), state(full), state(b"\x02", fed=0),
+                 state(b"\x02\x00\xff")):
+        same("states", line.well_formed(good), True)
+        same("states", line.feed(good, b""), line.Fed(good, 0, None))
+    for bad in (state(full, length=25), state(full, length=255), state(b"1"), state(b"\x03"),
+                state(b"\x02\x02"), state(b"\x02\x03"), state(b"\x021", beyond=1),
+                state(b"", beyond=2), state(b"\x021", length=1), state(b"", start=99),
+                state(b"\x02", start=100), state(b"\x02", fed=0, start=0),
+                state(b"", length=1)):
+        same("states", line.well_formed(bad), False)
+        for piece in (b"", b"x", STX, ETX):
+            same("states", outcome(line.feed, bad, piece), (None, 15))
+        same("states", outcome(line.end, bad), (None, 15))
+
+
+# --- the parameter byte ---
+
+def parameter_bytes():
+    for byte in range(256):
+        setting = parameter.read_parameter(byte)
+        same("parameter", parameter.write_parameter(setting), byte | 8 if byte & 4 else byte)
+    same("parameter", parameter.read_parameter(0x20).baud, 1200)
+    good = parameter.read_parameter(0)
+    for field, value in (("data_bits", 6), ("data_bits", 9), ("stop_bits", 0), ("stop_bits", 3),
+                         ("baud", 0), ("baud", 110), ("baud", 38400), ("parity", "mark")):
+        same("parameter", outcome(parameter.write_parameter, good._replace(**{field: value})),
+             (None, 16))
+
+
+def rows(dice, rounds):
+    """A row goes into a buffer that has room for it, and into no shorter one."""
+    for _ in range(rounds):
+        result = dice.choice([good_record(dice), dice.randrange(1, 12)])
+        event = line.Event(dice.randrange(WRAP), 18, result)
+        text = listing.row(event)
+        buffer = bytearray(b"?" * dice.choice([len(text) - 1, len(text), len(text) + 3]))
+        used, number = outcome(listing.write_row, event, buffer)
+        same("rows", number, 13 if len(buffer) < len(text) else None)
+        same("rows", bytes(buffer), (text if used else b"").ljust(len(buffer), b"?"))
+
+
+def main():
+    dice = random.Random(int(sys.argv[1]) if len(sys.argv) > 1 else 6036)
+    listing_examples()
+    boundary_table()
+    examples_of_the_manuals()
+    calendar()
+    time_of_day()
+    read_back_what_was_written(dice, 5000)
+    no_setting_named(dice, 3000)
+    refusals_of_records(dice, 3000)
+    several(dice, 1000)
+    what_reads_is_what_the_writer_makes(dice, 20000)
+    status_and_weekday_characters()
+    lines(dice, 1500)
+    wrapping_counts(dice, 300)
+    states_not_well_formed()
+    parameter_bytes()
+    rows(dice, 500)
+    print("ok", sum(counts.values()), "checks:",
+          ", ".join(f"{group} {count}" for group, count in counts.items()))
+
+
+if __name__ == "__main__":
+    main()

@@ -1,0 +1,206 @@
+"""Reading one telegram, writing one, writing several one behind another."""
+
+from typing import NamedTuple, Optional
+
+from layouts import (ETX, LAYOUTS, STATUS, STX, TIME_ONLY, WEEKDAY, is_decimal, is_fixed,
+                     layouts_of_length)
+from records import Dated, TimeOnly, check_record, flags_of, is_time_only, next_second
+from refusals import (BUFFER, DECIMAL_PLACE, FIXED_PLACE, FRAME, LENGTH, NO_DATE,
+                      STATUS_OR_WEEKDAY, Refused, check)
+from status import (character_of, nibble_of, read_status, read_weekday, status_allowed,
+                    weekday_allowed, write_status, write_weekday)
+
+DIGIT_0, DIGIT_9 = 0x30, 0x39
+
+
+# --- reading ---
+
+def between(telegram, control_characters):
+    """What stands between STX and ETX, or the whole telegram where both are missing."""
+    return telegram[1:-1] if control_characters else telegram
+
+
+def fixed_places_hold(layout, inner):
+    """Every space, CR and LF of the layout is in its place."""
+    return all(byte == place for place, byte in zip(LAYOUTS[layout], inner) if is_fixed(place))
+
+
+def layout_of(telegram, control_characters):
+    """The layout of that length whose fixed places hold. At length 10 (8) this is the
+    order of LF and CR."""
+    inner = between(telegram, control_characters)
+    for layout in layouts_of_length(len(telegram), control_characters):
+        if fixed_places_hold(layout, inner):
+            return layout
+    return None
+
+
+def character_at(layout, inner, wanted):
+    """The status or the weekday character."""
+    return inner[LAYOUTS[layout].index(wanted)]
+
+
+def length_not_in_table(telegram, control_characters):
+    """Condition 1."""
+    return not layouts_of_length(len(telegram), control_characters)
+
+
+def frame_missing(telegram, control_characters):
+    """Condition 2."""
+    return control_characters and (telegram[0] != STX or telegram[-1] != ETX)
+
+
+def fixed_place_wrong(telegram, control_characters):
+    """Condition 3."""
+    return layout_of(telegram, control_characters) is None
+
+
+def decimal_place_wrong(telegram, control_characters):
+    """Condition 4."""
+    layout = layout_of(telegram, control_characters)
+    inner = between(telegram, control_characters)
+    return any(not DIGIT_0 <= byte <= DIGIT_9
+               for place, byte in zip(LAYOUTS[layout], inner) if is_decimal(place))
+
+
+def status_or_weekday_wrong(telegram, control_characters):
+    """Condition 5: no four bits at all, or four bits the layout does not allow."""
+    layout = layout_of(telegram, control_characters)
+    if layout in TIME_ONLY:
+        return False
+    inner = between(telegram, control_characters)
+    status = nibble_of(character_at(layout, inner, STATUS))
+    weekday = nibble_of(character_at(layout, inner, WEEKDAY))
+    return (status is None or not status_allowed(layout, status)
+            or weekday is None or not weekday_allowed(layout, weekday))
+
+
+READING_CONDITIONS = (
+    (LENGTH, length_not_in_table),
+    (FRAME, frame_missing),
+    (FIXED_PLACE, fixed_place_wrong),
+    (DECIMAL_PLACE, decimal_place_wrong),
+    (STATUS_OR_WEEKDAY, status_or_weekday_wrong),
+)
+
+
+def full_year(two_digits):
+    """80 to 99 are 1980 to 1999, 00 to 79 are 2000 to 2079."""
+    return 1900 + two_digits if two_digits >= 80 else 2000 + two_digits
+
+
+def numbers_of(layout, inner):
+    """The decimal fields of a telegram by name."""
+    numbers = {}
+    for place, byte in zip(LAYOUTS[layout], inner):
+        if is_decimal(place):
+            numbers[place.field] = numbers.get(place.field, 0) + place.unit * (byte - DIGIT_0)
+    if "short_year" in numbers:
+        numbers["year"] = full_year(numbers.pop("short_year"))
+    return numbers
+
+
+def record_of(layout, inner):
+    """The record a telegram carries, once none of 1 to 5 holds."""
+    numbers = numbers_of(layout, inner)
+    if layout in TIME_ONLY:
+        return TimeOnly(layout=layout, **numbers)
+    flags = read_status(layout, nibble_of(character_at(layout, inner, STATUS)))
+    weekday, marked = read_weekday(nibble_of(character_at(layout, inner, WEEKDAY)))
+    return Dated(layout=layout, reception=flags.reception, daylight=flags.daylight,
+                 announced=flags.announced, utc=flags.utc or marked, weekday=weekday, **numbers)
+
+
+def read_telegram(telegram, control_characters):
+    """The record of one telegram, or the lowest of 1 to 8 that holds."""
+    check(READING_CONDITIONS, telegram, control_characters)
+    layout = layout_of(telegram, control_characters)
+    record = record_of(layout, between(telegram, control_characters))
+    check_record(record)
+    return record
+
+
+# --- writing one ---
+
+class Setting(NamedTuple):
+    """A named setting: the record's own layout is written in this way."""
+    control_characters: bool
+    second_advance: bool
+
+
+def numbers_to_write(record):
+    """The fields by the names the decimal places use."""
+    numbers = record._asdict()
+    if not is_time_only(record):
+        numbers["short_year"] = record.year % 100
+    return numbers
+
+
+def byte_at(place, record):
+    """What the writer puts in one place."""
+    if is_fixed(place):
+        return place
+    if place == STATUS:
+        return character_of(write_status(record.layout, flags_of(record)))
+    if place == WEEKDAY:
+        return character_of(write_weekday(record.layout, record.weekday, record.utc))
+    return DIGIT_0 + numbers_to_write(record)[place.field] // place.unit % 10
+
+
+def telegram_of(record, control_characters):
+    """The bytes of a good record in its own layout."""
+    inner = bytes(byte_at(place, record) for place in LAYOUTS[record.layout])
+    return bytes([STX]) + inner + bytes([ETX]) if control_characters else inner
+
+
+def telegram_as_set(record, setting):
+    """What a named setting writes; 5 to 8, and 12 for the advance."""
+    check_record(record)
+    if setting.second_advance:
+        record = next_second(record)
+    return telegram_of(record, setting.control_characters)
+
+
+def telegram_without_setting(record):
+    """What is written where no setting is named: 6021 whatever the record's layout, no
+    control characters, no advance; 5 to 8, then 14 for a time-only record."""
+    check_record(record)
+    if is_time_only(record):
+        raise Refused(NO_DATE)
+    return telegram_of(record._replace(layout="6021"), control_characters=False)
+
+
+def write_telegram(record, buffer, setting=None):
+    """Writes at the buffer's beginning and gives the telegram's length.
+
+    Refused with the lowest of 5 to 8, 12, 13, 14 the buffer stays as it was; otherwise
+    only the telegram's own bytes change. 14 leaves nothing to write, so 13 never hides it.
+    """
+    telegram = (telegram_without_setting(record) if setting is None
+                else telegram_as_set(record, setting))
+    if len(buffer) < len(telegram):
+        raise Refused(BUFFER)
+    buffer[:len(telegram)] = telegram
+    return len(telegram)
+
+
+# --- writing several ---
+
+class Written(NamedTuple):
+    """How many telegrams stand, how many bytes they use, the first refusal if any."""
+    stand: int
+    used: int
+    refusal: Optional[int]
+
+
+def write_telegrams(records, buffer, setting=None):
+    """Each telegram goes into the room after the last; the first refusal ends it."""
+    stand, used = 0, 0
+    with memoryview(buffer) as whole:
+        for record in records:
+            try:
+                used += write_telegram(record, whole[used:], setting)
+            except Refused as refused:
+                return Written(stand, used, refused.number)
+            stand += 1
+    return Written(stand, used, None)
