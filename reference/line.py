@@ -52,6 +52,7 @@ def held_of(state):
 
 
 def at_most_24_held(state):
+    """No more are held than there are places."""
     return 0 <= state.length <= PLACES
 
 
@@ -67,6 +68,7 @@ def zero_beyond(state):
 
 
 def start_is_fed_less_held(state):
+    """The start position is fed less held, with the wrap."""
     return state.start == (state.fed - state.length) % WRAP
 
 

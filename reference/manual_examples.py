@@ -52,6 +52,7 @@ def on_the_line(text):
 
 def example(source, section, kind, text, says, right, note, expected, *, inside=OUTSIDE,
             origin=PRINTED):
+    """One example, its telegram written with the marks above."""
     return Example(source, section, kind, on_the_line(text), inside, says, right, note,
                    expected, origin)
 
@@ -196,6 +197,7 @@ BOARD_COMMANDS = [
 # The other manuals spell out the same strings; only what differs is listed again.
 
 def spelled_out(source, section, kind, text, says, right=None, note=""):
+    """One string that a manual spells out; none has a length of the table."""
     return example(source, section, kind, text, says, right, note, "1", origin=SPELLED_OUT)
 
 
@@ -287,6 +289,7 @@ REMOTE_COMMANDS = [
 
 
 def built(source, section, kind, text, note, expected):
+    """One string built from its character table."""
     return example(source, section, kind, text, "", None, note, expected, origin=BUILT)
 
 
@@ -301,7 +304,7 @@ BUILT_FROM_TABLES = [
           "22 bytes", "1"),
     built("002", "3.23", "Clockmouse with o", "o(CR)123456303019643(CR)",
           "18 bytes without STX", "2"),
-    built("002", "3.27", "OMS Synchro", "\\G12345620020718" "0400",
+    built("002", "3.27", "OMS Synchro", "\\G123456200207180400",
           "20 bytes without STX; the way its check is made is not given, 00 stands for it",
           "2"),
 ]
@@ -343,6 +346,7 @@ def outside_outcomes():
 
 
 def print_all():
+    """One line for each example."""
     for an_example, outcome in all_outcomes():
         right = {True: "right", False: "wrong", None: "-"}[an_example.right]
         place = "inside" if an_example.inside else "outside"

@@ -58,14 +58,17 @@ def is_time_only(record):
 
 
 def time_of(record):
+    """The time, which every record has."""
     return Time(record.hour, record.minute, record.second)
 
 
 def date_of(record):
+    """The date of a dated record."""
     return Date(record.year, record.month, record.day)
 
 
 def flags_of(record):
+    """What the status of a dated record says."""
     return Flags(record.reception, record.daylight, record.announced, record.utc)
 
 
@@ -89,12 +92,12 @@ def out_of_range(record):
 
 
 def no_such_day(record):
-    """Condition 7."""
+    """Condition 7: the month has no such day."""
     return not is_time_only(record) and days.no_such_day(date_of(record))
 
 
 def weekday_disagrees(record):
-    """Condition 8."""
+    """Condition 8: the calendar has another weekday for the date."""
     return not is_time_only(record) and days.weekday_of(date_of(record)) != record.weekday
 
 

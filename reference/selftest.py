@@ -231,6 +231,25 @@ def refusals_of_records(dice, rounds):
             same("records", outcome(telegrams.write_telegram, record, buffer, setting)[1], wanted)
 
 
+def fields_out_of_order():
+    """One good record with one or more fields changed, and the number it then gets."""
+    good = Dated("5050", "radio", False, False, False, 3, 12, 34, 56, 3, 1, 1996)
+    for changed, wanted in (
+            ({}, None), ({"weekday": 0}, 5), ({"weekday": 8}, 5), ({"weekday": 200}, 5),
+            ({"weekday": 4}, 8), ({"reception": "invalid"}, 5), ({"reception": "high"}, 5),
+            ({"utc": True}, None), ({"utc": True, "daylight": True}, 5),
+            ({"utc": True, "announced": True}, 5), ({"daylight": True, "announced": True}, None),
+            ({"hour": 24}, 6), ({"hour": 99}, 6), ({"minute": 60}, 6), ({"second": 60}, 6),
+            ({"day": 0}, 6), ({"day": 32}, 6), ({"month": 0}, 6), ({"month": 13}, 6),
+            ({"year": 1979}, 6), ({"year": 2080}, 6), ({"year": 96}, 6), ({"year": 65535}, 6),
+            ({"day": 30, "month": 2}, 7), ({"day": 31, "month": 4}, 7), ({"day": 4}, 8),
+            ({"weekday": 0, "hour": 99}, 5), ({"day": 30, "month": 2, "second": 99}, 6),
+            ({"layout": "6021", "reception": "invalid", "utc": True, "daylight": True}, None)):
+        record = good._replace(**changed)
+        same("fields", (changed, outcome(records.check_record, record)[1]), (changed, wanted))
+    same("fields", outcome(records.check_record, TimeOnly("6021t", 0, 60, 0))[1], 6)
+
+
 def several(dice, rounds):
     for _ in range(rounds):
         some = [good_record(dice) for _ in range(dice.randrange(6))]
@@ -249,6 +268,25 @@ def several(dice, rounds):
             wanted = Written(wanted.stand + 1, wanted.used + used, None)
         same("several", telegrams.write_telegrams(some, buffer, setting), wanted)
         same("several", buffer, room)
+
+
+def utc_counts():
+    """The ends of the calendar in each season."""
+    first = Dated("6021", "invalid", False, True, False, 2, 0, 59, 59, 1, 1, 1980)
+    last = Dated("2000", "radio", False, False, True, 7, 23, 59, 59, 31, 12, 2079)
+    for record, wanted in (
+            (first, (None, 12)), (first._replace(hour=1, minute=0, second=0), (0,)),
+            (first._replace(hour=1, daylight=True), (None, 12)),
+            (first._replace(hour=2, minute=0, second=0, daylight=True), (0,)),
+            (first._replace(utc=True), (3599,)),
+            (first._replace(utc=True, daylight=True), (3599,)),
+            (last, (3155759999,)), (last._replace(utc=False), (3155756399,)),
+            (last._replace(daylight=True), (3155759999,)),
+            (last._replace(layout="5050", daylight=True), (None, 5)),
+            (TimeOnly("5050t", 23, 59, 59), (None, 14)), (TimeOnly("5050t", 24, 0, 0), (None, 6))):
+        utc, number = outcome(records.utc_seconds, record)
+        same("utc", (None, number) if utc is None else (utc.count,), wanted)
+    same("utc", outcome(records.step_clock, last), (None, 12))
 
 
 # --- damaged telegrams ---
@@ -288,19 +326,24 @@ def what_reads_is_what_the_writer_makes(dice, rounds):
 
 
 def status_and_weekday_characters():
-    """Every pair of characters in every dated layout reads as the writer would make it,
-    or is refused with 5, or with 8 for the date's other weekdays."""
+    """Every pair of characters in every dated layout: 5 unless both are allowed, 8 unless
+    the weekday is the date's Wednesday, else a telegram the writer makes again."""
     characters = sorted(set(range(0x20, 0x50)) | set(b"abfx\x00\x02\x03\x7f\xff"))
-    for inner, state, weekday in ((b"??123456030196\n\r", 0, 1), (b"??12345603011996\n\r", 0, 1),
-                                  (b"? 123456 030196 ?\r\n", 0, 16),
-                                  (b"12 34 56 03 01 96 ?? \r\n", 18, 19)):
+    as_6021 = (b"0123456789ABCDEF", b"12345679ABCDEF", b"3B")
+    as_5500 = (b"0123456789", b"1234567", b"3")
+    for inner, state, weekday, (states, weekdays, wednesday) in (
+            (b"??123456030196\n\r", 0, 1, as_6021), (b"??12345603011996\n\r", 0, 1, as_6021),
+            (b"? 123456 030196 ?\r\n", 0, 16, as_5500),
+            (b"12 34 56 03 01 96 ?? \r\n", 18, 19, as_5500)):
         for first in characters:
             for second in characters:
                 telegram = bytearray(framed(inner))
                 telegram[state + 1], telegram[weekday + 1] = first, second
                 got = read(bytes(telegram))
-                if isinstance(got, int):
-                    same("characters", got in (5, 8), True)
+                if first not in states or second not in weekdays:
+                    same("characters", got, 5)
+                elif second not in wednesday:
+                    same("characters", got, 8)
                 else:
                     same("characters", telegram_of(got, True), bytes(telegram))
 
@@ -448,7 +491,9 @@ def main():
     read_back_what_was_written(dice, 5000)
     no_setting_named(dice, 3000)
     refusals_of_records(dice, 3000)
+    fields_out_of_order()
     several(dice, 1000)
+    utc_counts()
     what_reads_is_what_the_writer_makes(dice, 20000)
     status_and_weekday_characters()
     lines(dice, 1500)

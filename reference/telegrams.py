@@ -41,22 +41,22 @@ def character_at(layout, inner, wanted):
 
 
 def length_not_in_table(telegram, control_characters):
-    """Condition 1."""
+    """Condition 1: no layout has that length in this mode."""
     return not layouts_of_length(len(telegram), control_characters)
 
 
 def frame_missing(telegram, control_characters):
-    """Condition 2."""
+    """Condition 2: STX and ETX are wanted, and one is not at its end."""
     return control_characters and (telegram[0] != STX or telegram[-1] != ETX)
 
 
 def fixed_place_wrong(telegram, control_characters):
-    """Condition 3."""
+    """Condition 3: no layout of that length has all its spaces, CR and LF in place."""
     return layout_of(telegram, control_characters) is None
 
 
 def decimal_place_wrong(telegram, control_characters):
-    """Condition 4."""
+    """Condition 4: some decimal place holds no digit."""
     layout = layout_of(telegram, control_characters)
     inner = between(telegram, control_characters)
     return any(not DIGIT_0 <= byte <= DIGIT_9

@@ -2,3 +2,4 @@ pub mod Months
 pub mod Dates
 pub mod Times
 pub mod Laws
+pub mod Whole

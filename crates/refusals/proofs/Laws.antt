@@ -1,5 +1,5 @@
 -- Laws of refusals and of the tests behind them. Assumes nothing.
-use mathlib.Core.Path.{_≡_, refl}
+use mathlib.Core.Path.{_≡_, refl, ap, sym, _∙_}
 use mathlib.Core.Bool.{Bool, true, false, not, _&&_}
 use Prim.Native.Nat.{ℕ, zero, suc}
 use native.Mathlib.Omega.{arith}
@@ -65,3 +65,13 @@ else-assoc (suc a) b later = refl
 pub else-some : (a later : ℕ) → (a ≡ 0 → ⊥) → (a else later) ≡ a
 else-some zero later some = absurd (some refl)
 else-some (suc a) later some = refl
+
+-- a meaning from which each value can be had back tells any two values apart
+pub told-apart : {A B : Type 0} (meaning : A → B) (back : B → A) → ((a : A) → back (meaning a) ≡ a)
+    → (a b : A) → meaning a ≡ meaning b → a ≡ b
+told-apart meaning back had a b e = sym (had a) ∙ ap back e ∙ had b
+
+-- an answer of two cases, got back from what it means
+abbrev pub back : {A B : Type 0} → (A → B) → (ℕ → B) → Outcome A → B
+back good bad (done value) = good value
+back good bad (refused number) = bad number
