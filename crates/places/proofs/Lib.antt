@@ -1,3 +1,5 @@
 pub mod Characters
 pub mod Scanning
 pub mod Rendering
+pub mod Rows
+pub mod RoundTrip
