@@ -252,3 +252,12 @@ held-gather (p ∷ row) (byte ∷ bytes) base fits d c held =
 
 pub held-none : Held noDigits
 held-none = record { size = refl; within = λ slot. omega (arith, no-digit 16 slot) }
+
+-- a test that holds at each place of a row holds at any one of them
+pub every-at : (holds : Place → ℕ → Bool) (row : List Place) (bytes : List ℕ) (p : Place) → every holds row bytes ≡ true
+    → (k : ℕ) → k < length row → k < length bytes → holds (getD row k p) (getD bytes k 0) ≡ true
+every-at holds [] bytes p e k r b = absurd (omega arith)
+every-at holds (q ∷ row) [] p e k r b = absurd (omega arith)
+every-at holds (q ∷ row) (byte ∷ bytes) p e zero r b = every-parts q row byte bytes holds e .0
+every-at holds (q ∷ row) (byte ∷ bytes) p e (suc k) r b =
+    every-at holds row bytes p (every-parts q row byte bytes holds e .1) k (omega arith) (omega arith)

@@ -16,6 +16,11 @@ pub data Place : Type 0 where
 unfoldable pub place : ℕ → Place
 place n = cond (ltb n 128) (fixed n) (cond (ltb n 144) (decimal (n % 16)) (code (n % 16)))
 
+abbrev pub placeNumber : Place → ℕ
+placeNumber (fixed character) = character
+placeNumber (decimal slot) = 128 + slot
+placeNumber (code slot) = 144 + slot
+
 -- "0 to 9"
 unfoldable pub isDecimal : ℕ → Bool
 isDecimal byte = leb 48 byte && leb byte 57

@@ -31,12 +31,16 @@ plainUtc status = not (status .utc) || not (status .daylight || status .announce
 unfoldable pub tableCanSay : Status → Bool
 tableCanSay status = crystalOrRadio (status .reception) && plainUtc status
 
+-- 6021 and 2000 have one status table, 5500 and 5050 the other
+abbrev pub tableOf6021 : DatedLayout → Bool
+tableOf6021 L6021 = true
+tableOf6021 L2000 = true
+tableOf6021 L5500 = false
+tableOf6021 L5050 = false
+
 -- "all sixteen are legal" in 6021 and 2000
-abbrev pub statusAllowed : DatedLayout → Status → Bool
-statusAllowed L6021 status = true
-statusAllowed L2000 status = true
-statusAllowed L5500 status = tableCanSay status
-statusAllowed L5050 status = tableCanSay status
+unfoldable pub statusAllowed : DatedLayout → Status → Bool
+statusAllowed layout status = tableOf6021 layout || tableCanSay status
 
 -- "weekday is 1 to 7"
 unfoldable pub weekdayAllowed : ℕ → Bool

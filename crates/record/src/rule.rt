@@ -14,7 +14,7 @@ use refusals::STATUS_OR_WEEKDAY;
 use refusals::WEEKDAY_DISAGREES;
 ghost use mathlib.Core.Path.{_≡_};
 ghost use Rattle.calendar.specs.TimeOfDay.{timeRefusal};
-ghost use Rattle.record.specs.Rule.{crystalOrRadio, plainUtc, tableCanSay, statusAllowed, weekdayAllowed, datedRefusal, refusalOf};
+ghost use Rattle.record.specs.Rule.{crystalOrRadio, plainUtc, tableCanSay, tableOf6021, statusAllowed, weekdayAllowed, datedRefusal, refusalOf};
 
 fn is_crystal_or_radio(reception: Reception) -> bool
     ensures { λ r. ⌜ r ≡ crystalOrRadio reception ⌝ }
@@ -51,15 +51,25 @@ fn table_can_say(status: Status) -> bool
     is_plain_utc(status)
 }
 
-fn status_allowed(layout: DatedLayout, status: Status) -> bool
-    ensures { λ r. ⌜ r ≡ statusAllowed layout status ⌝ }
+// 6021 and 2000 have one status table, 5500 and 5050 the other.
+pub fn table_of_6021(layout: DatedLayout) -> bool
+    ensures { λ r. ⌜ r ≡ tableOf6021 layout ⌝ }
 {
     match layout {
         DatedLayout::L6021 => true,
         DatedLayout::L2000 => true,
-        DatedLayout::L5500 => table_can_say(status),
-        DatedLayout::L5050 => table_can_say(status),
+        DatedLayout::L5500 => false,
+        DatedLayout::L5050 => false,
     }
+}
+
+fn status_allowed(layout: DatedLayout, status: Status) -> bool
+    ensures { λ r. ⌜ r ≡ statusAllowed layout status ⌝ }
+{
+    if table_of_6021(layout) {
+        return true;
+    }
+    table_can_say(status)
 }
 
 fn weekday_allowed(weekday: u8) -> bool

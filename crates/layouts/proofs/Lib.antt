@@ -1,0 +1,4 @@
+pub mod Bits
+pub mod RowLaws
+pub mod CodingLaws
+pub mod Carried

@@ -1,0 +1,88 @@
+-- Document 01, "The seven layouts": the table of layouts, and how a layout is found.
+use mathlib.Core.Bool.{Bool, cond, _&&_}
+use mathlib.Core.List.{List, [], _∷_, _++_, map}
+use Prim.Native.Nat.{ℕ, _-_}
+use lib.Dec.{eqb}
+use lib.ListN.{length, getD, replicate}
+use Rattle.refusals.specs.Refusals.{Outcome, done, refused}
+use Rattle.places.specs.Places.{Place, fixed, decimal, code, placeNumber}
+use Rattle.record.specs.declared.DatedLayout.the-variants.{L6021, L2000, L5500, L5050}
+use Rattle.record.specs.declared.TimeLayout.the-variants.{T6021, T5500, T5050}
+use Rattle.record.specs.declared.Record.{Record}
+use Rattle.record.specs.declared.Record.the-variants.{Dated, TimeOnly}
+use Rattle.layouts.specs.declared.Layout.{Layout}
+use Rattle.layouts.specs.declared.rows.Row.{Row}
+use Rattle.layouts.specs.declared.Layout.the-variants.{Full, Brief}
+
+-- the pieces that the table's rows are made of; a digit's number is its slot
+abbrev pub status : Place
+status = code 0
+
+abbrev pub weekday : Place
+weekday = code 1
+
+abbrev pub hh : List Place
+hh = decimal 2 ∷ decimal 3 ∷ []
+
+abbrev pub mm : List Place
+mm = decimal 4 ∷ decimal 5 ∷ []
+
+abbrev pub ss : List Place
+ss = decimal 6 ∷ decimal 7 ∷ []
+
+abbrev pub dd : List Place
+dd = decimal 8 ∷ decimal 9 ∷ []
+
+abbrev pub mo : List Place
+mo = decimal 10 ∷ decimal 11 ∷ []
+
+abbrev pub yy : List Place
+yy = decimal 14 ∷ decimal 15 ∷ []
+
+abbrev pub yyyy : List Place
+yyyy = decimal 12 ∷ decimal 13 ∷ yy
+
+abbrev pub space : Place
+space = fixed 32
+
+-- "LF is hex 0A, CR hex 0D"
+abbrev pub lf : Place
+lf = fixed 10
+
+abbrev pub cr : Place
+cr = fixed 13
+
+-- the table, "between STX and ETX"
+unfoldable pub rowOf : Layout → List Place
+rowOf (Full L6021) = status ∷ weekday ∷ hh ++ mm ++ ss ++ dd ++ mo ++ yy ++ lf ∷ cr ∷ []
+rowOf (Brief T6021) = hh ++ mm ++ ss ++ lf ∷ cr ∷ []
+rowOf (Full L2000) = status ∷ weekday ∷ hh ++ mm ++ ss ++ dd ++ mo ++ yyyy ++ lf ∷ cr ∷ []
+rowOf (Full L5500) = status ∷ space ∷ hh ++ mm ++ ss ++ space ∷ dd ++ mo ++ yy ++ space ∷ weekday ∷ cr ∷ lf ∷ []
+rowOf (Brief T5500) = hh ++ mm ++ ss ++ cr ∷ lf ∷ []
+rowOf (Full L5050) =
+    hh ++ space ∷ mm ++ space ∷ ss ++ space ∷ dd ++ space ∷ mo ++ space ∷ yy ++ space ∷ status ∷ weekday ∷ space ∷ cr ∷ lf ∷ []
+rowOf (Brief T5050) = hh ++ space ∷ mm ++ space ∷ ss ++ space ∷ cr ∷ lf ∷ []
+
+-- a row as the code keeps it: one number a place, and behind them zeros that do not belong to it
+abbrev pub rowRecord : List Place → Row
+rowRecord row = record { places = map placeNumber row ++ replicate (24 - length row) 0; length = length row }
+
+-- a record's own layout
+abbrev pub ownLayout : Record → Layout
+ownLayout (Dated layout status weekday date time) = Full layout
+ownLayout (TimeOnly layout time) = Brief layout
+
+-- "the order of LF and CR decides": LF CR is a 6021t, and anything else is judged as a 5500t, which wants CR LF
+abbrev pub byTrailer : List ℕ → Layout
+byTrailer body = cond (eqb (getD body 6 0) 10 && eqb (getD body 7 0) 13) (Brief T6021) (Brief T5500)
+
+-- "the layout is found from the length", here without STX and ETX; 1: "length isn't one in the table"
+unfoldable pub layoutOf : List ℕ → Outcome Layout
+layoutOf body =
+    cond (eqb (length body) 16) (done (Full L6021))
+    (cond (eqb (length body) 8) (done (byTrailer body))
+    (cond (eqb (length body) 18) (done (Full L2000))
+    (cond (eqb (length body) 19) (done (Full L5500))
+    (cond (eqb (length body) 23) (done (Full L5050))
+    (cond (eqb (length body) 11) (done (Brief T5050))
+    (refused 1))))))

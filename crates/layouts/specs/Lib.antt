@@ -1,0 +1,3 @@
+pub mod Layouts
+pub mod Coding
+pub mod Answers

@@ -1,0 +1,316 @@
+// The seven layouts as data: a row of places each, without STX and ETX, and the layout that a length tells.
+use super::Layout;
+use record::DatedLayout;
+use record::TimeLayout;
+use refusals::LENGTH;
+ghost use mathlib.Core.Path.{_≡_};
+ghost use Rattle.layouts.specs.Layouts.{rowOf, rowRecord, layoutOf, byTrailer};
+ghost use Rattle.layouts.specs.Answers.{layoutAnswer};
+
+const LF: u8 = b'\n';
+
+const CR: u8 = b'\r';
+
+const SPACE: u8 = b' ';
+
+// Places that hold a digit: its slot, counted from the first decimal or the first code place.
+const STATUS: u8 = 144;
+
+const WEEKDAY: u8 = 145;
+
+const HOUR_10: u8 = 130;
+
+const HOUR_1: u8 = 131;
+
+const MINUTE_10: u8 = 132;
+
+const MINUTE_1: u8 = 133;
+
+const SECOND_10: u8 = 134;
+
+const SECOND_1: u8 = 135;
+
+const DAY_10: u8 = 136;
+
+const DAY_1: u8 = 137;
+
+const MONTH_10: u8 = 138;
+
+const MONTH_1: u8 = 139;
+
+const YEAR_1000: u8 = 140;
+
+const YEAR_100: u8 = 141;
+
+const YEAR_10: u8 = 142;
+
+const YEAR_1: u8 = 143;
+
+// A row, and behind its length zeros that do not belong to it.
+pub struct Row {
+    pub places: [u8; 24],
+    pub length: usize,
+}
+
+pub enum LayoutAnswer {
+    Found(Layout),
+    Refused(u8),
+}
+
+const ROW_6021: Row = Row {
+    places: [
+        STATUS,
+        WEEKDAY,
+        HOUR_10,
+        HOUR_1,
+        MINUTE_10,
+        MINUTE_1,
+        SECOND_10,
+        SECOND_1,
+        DAY_10,
+        DAY_1,
+        MONTH_10,
+        MONTH_1,
+        YEAR_10,
+        YEAR_1,
+        LF,
+        CR,
+        0,
+        0,
+        0,
+        0,
+        0,
+        0,
+        0,
+        0,
+    ],
+    length: 16,
+};
+
+const ROW_2000: Row = Row {
+    places: [
+        STATUS,
+        WEEKDAY,
+        HOUR_10,
+        HOUR_1,
+        MINUTE_10,
+        MINUTE_1,
+        SECOND_10,
+        SECOND_1,
+        DAY_10,
+        DAY_1,
+        MONTH_10,
+        MONTH_1,
+        YEAR_1000,
+        YEAR_100,
+        YEAR_10,
+        YEAR_1,
+        LF,
+        CR,
+        0,
+        0,
+        0,
+        0,
+        0,
+        0,
+    ],
+    length: 18,
+};
+
+const ROW_5500: Row = Row {
+    places: [
+        STATUS,
+        SPACE,
+        HOUR_10,
+        HOUR_1,
+        MINUTE_10,
+        MINUTE_1,
+        SECOND_10,
+        SECOND_1,
+        SPACE,
+        DAY_10,
+        DAY_1,
+        MONTH_10,
+        MONTH_1,
+        YEAR_10,
+        YEAR_1,
+        SPACE,
+        WEEKDAY,
+        CR,
+        LF,
+        0,
+        0,
+        0,
+        0,
+        0,
+    ],
+    length: 19,
+};
+
+const ROW_5050: Row = Row {
+    places: [
+        HOUR_10,
+        HOUR_1,
+        SPACE,
+        MINUTE_10,
+        MINUTE_1,
+        SPACE,
+        SECOND_10,
+        SECOND_1,
+        SPACE,
+        DAY_10,
+        DAY_1,
+        SPACE,
+        MONTH_10,
+        MONTH_1,
+        SPACE,
+        YEAR_10,
+        YEAR_1,
+        SPACE,
+        STATUS,
+        WEEKDAY,
+        SPACE,
+        CR,
+        LF,
+        0,
+    ],
+    length: 23,
+};
+
+const ROW_6021T: Row = Row {
+    places: [
+        HOUR_10,
+        HOUR_1,
+        MINUTE_10,
+        MINUTE_1,
+        SECOND_10,
+        SECOND_1,
+        LF,
+        CR,
+        0,
+        0,
+        0,
+        0,
+        0,
+        0,
+        0,
+        0,
+        0,
+        0,
+        0,
+        0,
+        0,
+        0,
+        0,
+        0,
+    ],
+    length: 8,
+};
+
+const ROW_5500T: Row = Row {
+    places: [
+        HOUR_10,
+        HOUR_1,
+        MINUTE_10,
+        MINUTE_1,
+        SECOND_10,
+        SECOND_1,
+        CR,
+        LF,
+        0,
+        0,
+        0,
+        0,
+        0,
+        0,
+        0,
+        0,
+        0,
+        0,
+        0,
+        0,
+        0,
+        0,
+        0,
+        0,
+    ],
+    length: 8,
+};
+
+const ROW_5050T: Row = Row {
+    places: [
+        HOUR_10,
+        HOUR_1,
+        SPACE,
+        MINUTE_10,
+        MINUTE_1,
+        SPACE,
+        SECOND_10,
+        SECOND_1,
+        SPACE,
+        CR,
+        LF,
+        0,
+        0,
+        0,
+        0,
+        0,
+        0,
+        0,
+        0,
+        0,
+        0,
+        0,
+        0,
+        0,
+    ],
+    length: 11,
+};
+
+pub fn row_of(layout: Layout) -> Row
+    ensures { λ r. ⌜ r ≡ rowRecord (rowOf layout) ⌝ }
+{
+    match layout {
+        Layout::Full(dated) => match dated {
+            DatedLayout::L6021 => ROW_6021,
+            DatedLayout::L2000 => ROW_2000,
+            DatedLayout::L5500 => ROW_5500,
+            DatedLayout::L5050 => ROW_5050,
+        },
+        Layout::Brief(brief) => match brief {
+            TimeLayout::T6021 => ROW_6021T,
+            TimeLayout::T5500 => ROW_5500T,
+            TimeLayout::T5050 => ROW_5050T,
+        },
+    }
+}
+
+// Of two layouts with one length, the order of LF and CR decides.
+fn by_trailer(body: &[u8]) -> Layout
+    ensures { λ r. ⌜ r ≡ byTrailer (now (body .entry)) ⌝ }
+{
+    if body.len() < 8 {
+        return Layout::Brief(TimeLayout::T5500);
+    }
+    if body[6] != LF {
+        return Layout::Brief(TimeLayout::T5500);
+    }
+    if body[7] != CR {
+        return Layout::Brief(TimeLayout::T5500);
+    }
+    Layout::Brief(TimeLayout::T6021)
+}
+
+pub fn layout_of(body: &[u8]) -> LayoutAnswer
+    ensures { λ r. ⌜ layoutAnswer r ≡ layoutOf (now (body .entry)) ⌝ }
+{
+    match body.len() {
+        16 => LayoutAnswer::Found(Layout::Full(DatedLayout::L6021)),
+        8 => LayoutAnswer::Found(by_trailer(body)),
+        18 => LayoutAnswer::Found(Layout::Full(DatedLayout::L2000)),
+        19 => LayoutAnswer::Found(Layout::Full(DatedLayout::L5500)),
+        23 => LayoutAnswer::Found(Layout::Full(DatedLayout::L5050)),
+        11 => LayoutAnswer::Found(Layout::Brief(TimeLayout::T5050)),
+        _ => LayoutAnswer::Refused(LENGTH),
+    }
+}
