@@ -5,7 +5,7 @@ use mathlib.Core.List.{List, [], _∷_, _++_, map}
 use Prim.Native.Nat.{ℕ, _-_, _≤_, _<_}
 use native.Mathlib.Omega.{arith}
 use lib.Dec.{leb, eqb}
-use lib.ListN.{length, take, getD, replicate}
+use lib.ListN.{length, take, getD, replicate, length-append, length-map}
 use borrow.Author.Tests.{leb-true, eqb-true}
 use Rattle.refusals.specs.Refusals.{Outcome, done, refused}
 use Rattle.places.specs.Places.{Place, fixed, place, placeNumber, fixedHolds, every}
@@ -15,6 +15,7 @@ use Rattle.places.proofs.RoundTrip.{every-at}
 use Rattle.record.specs.declared.DatedLayout.the-variants.{L6021, L2000, L5500, L5050}
 use Rattle.record.specs.declared.TimeLayout.the-variants.{T6021, T5500, T5050}
 use Rattle.layouts.specs.declared.Layout.{Layout}
+use Rattle.layouts.specs.declared.rows.Row.{Row}
 use Rattle.layouts.specs.declared.Layout.the-variants.{Full, Brief}
 use Rattle.layouts.specs.Layouts.{rowOf, rowRecord, layoutOf, byTrailer}
 
@@ -113,3 +114,17 @@ found-again (Brief T6021) body same holds =
 found-again (Brief T5500) body same holds =
     let first : getD body 6 0 ≡ 13 = eqb-true _ 13 (trailer-byte (Brief T5500) body same holds 6 (omega arith)) in
     rw (same, first)
+
+-- The row that the code keeps, as the code sees it.
+module _ (row : Row) (layout : Layout) (kept : row ≡ rowRecord (rowOf layout)) where
+  pub kept-length : row .length ≡ length (rowOf layout)
+  kept-length = ap (λ r. r .length) kept
+
+  pub kept-room : row .length ≤ length (row .places)
+  kept-room =
+      let room = length-append (map placeNumber (rowOf layout)) (replicate (24 - length (rowOf layout)) 0) in
+      let front = length-map (rowOf layout) placeNumber in
+      omega (arith, kept-length, ap (λ r. length (r .places)) kept)
+
+  pub kept-row : map place (take (row .length) (row .places)) ≡ rowOf layout
+  kept-row = ap (λ r. map place (take (r .length) (r .places))) kept ∙ row-kept layout

@@ -1,0 +1,43 @@
+-- Document 01, "Refusal numbers" 1 to 8: reading one telegram.
+use mathlib.Core.Bool.{Bool, cond, not, _&&_}
+use mathlib.Core.List.{List}
+use Prim.Native.Nat.{ℕ, _-_}
+use lib.Dec.{eqb}
+use lib.ListN.{length, take, drop, getD}
+use Rattle.refusals.specs.Refusals.{_when_, _else_, Outcome, unless, after}
+use Rattle.places.specs.Places.{fixedHolds, decimalHolds, codeHolds, every, gather, noDigits}
+use Rattle.record.specs.declared.Record.{Record}
+use Rattle.record.specs.Rule.{refusalOf}
+use Rattle.layouts.specs.declared.Layout.{Layout}
+use Rattle.layouts.specs.Layouts.{rowOf, layoutOf}
+use Rattle.layouts.specs.Coding.{recordIn}
+
+-- "lengths include STX and ETX. Without control characters both are missing": what stands between them
+abbrev pub bodyOf : Bool → List ℕ → List ℕ
+bodyOf control bytes = cond control (take (length bytes - 2) (drop 1 bytes)) bytes
+
+-- "STX (hex 02) and ETX (hex 03)" in their places
+abbrev pub framed : List ℕ → Bool
+framed bytes = eqb (getD bytes 0 0) 2 && eqb (getD bytes (length bytes - 1) 0) 3
+
+-- the record that a body carries in a layout, right or wrong
+unfoldable pub carried : Layout → List ℕ → Record
+carried layout body = recordIn layout (gather (rowOf layout) body noDigits)
+
+-- 3 fixed characters, 4 decimal places, 5 status or weekday no character for four bits, then the record's own 5 to 8
+unfoldable pub bodyRefusal : Layout → List ℕ → ℕ
+bodyRefusal layout body =
+    3 when not (every fixedHolds (rowOf layout) body)
+    else 4 when not (every decimalHolds (rowOf layout) body)
+    else 5 when not (every codeHolds (rowOf layout) body)
+    else refusalOf (carried layout body)
+
+-- the body of a telegram whose layout is known
+unfoldable pub readBodyAs : Layout → List ℕ → Outcome Record
+readBodyAs layout body = unless (bodyRefusal layout body) (carried layout body)
+
+-- 1 from the length; 2 "control characters wanted, first isn't STX or last isn't ETX"; then the body's
+unfoldable pub readOf : Bool → List ℕ → Outcome Record
+readOf control bytes =
+    after (layoutOf (bodyOf control bytes))
+    (λ layout. unless (2 when (control && not (framed bytes)) else bodyRefusal layout (bodyOf control bytes)) (carried layout (bodyOf control bytes)))

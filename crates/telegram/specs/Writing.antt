@@ -1,0 +1,85 @@
+-- Document 01, "Refusal numbers": writing one telegram, and several one behind another.
+use mathlib.Core.Bool.{Bool, false, cond}
+use mathlib.Core.List.{List, [], _∷_, _++_}
+use Prim.Native.Nat.{ℕ, zero, suc, _+_, _%_, _^_}
+use lib.Dec.{ltb, eqb}
+use lib.ListN.{length, take, drop}
+use Rattle.refusals.specs.Refusals.{_when_, _else_, Outcome, done, refused, unless, after}
+use Rattle.places.specs.Places.{render}
+use Rattle.record.specs.declared.DatedLayout.the-variants.{L6021}
+use Rattle.record.specs.declared.Record.{Record}
+use Rattle.record.specs.declared.Record.the-variants.{Dated, TimeOnly}
+use Rattle.record.specs.Rule.{refusalOf}
+use Rattle.record.specs.Next.{nextSecondOf}
+use Rattle.telegram.specs.declared.write.Setting.{Setting}
+use Rattle.telegram.specs.declared.write.Choice.{Choice}
+use Rattle.telegram.specs.declared.write.Choice.the-variants.{Named, Unnamed}
+use Rattle.telegram.specs.declared.several.Several.{Several}
+use Rattle.layouts.specs.Layouts.{rowOf, ownLayout}
+use Rattle.layouts.specs.Coding.{digitsOut}
+
+-- the bytes of a record in its own layout, between STX and ETX
+unfoldable pub bodyBytes : Record → List ℕ
+bodyBytes rec = render (rowOf (ownLayout rec)) (digitsOut rec)
+
+-- "STX and ETX. Without control characters both are missing"
+abbrev pub telegramOf : Bool → Record → List ℕ
+telegramOf control rec = cond control (2 ∷ bodyBytes rec ++ 3 ∷ []) (bodyBytes rec)
+
+-- the same fields in the 6021 layout; 14: "a date is needed and the layout carries none"
+abbrev pub as6021 : Record → Outcome Record
+as6021 (Dated layout status weekday date time) = done (Dated L6021 status weekday date time)
+as6021 (TimeOnly layout time) = refused 14
+
+-- a record that no rule refuses, as it is
+abbrev pub judgedOf : Record → Outcome Record
+judgedOf rec = unless (refusalOf rec) rec
+
+-- which record is written: with second advance "the telegram carries the next second"; "if a caller names no setting, a write is
+-- 6021 whatever layout the record has, .. without second advance"
+abbrev pub recordToWrite : Choice → Record → Outcome Record
+recordToWrite (Named setting) rec = cond (setting .advance) (nextSecondOf rec) (judgedOf rec)
+recordToWrite Unnamed rec = after (judgedOf rec) as6021
+
+-- and whether with control characters: unnamed "without"
+abbrev pub controlOf : Choice → Bool
+controlOf (Named setting) = setting .control
+controlOf Unnamed = false
+
+-- 13: "the lent buffer is shorter than what is to be written"
+unfoldable pub laid : Bool → Record → List ℕ → Outcome (List ℕ)
+laid control rec buffer =
+    unless (13 when ltb (length buffer) (length (telegramOf control rec))) (telegramOf control rec)
+
+-- the telegram that is written into a buffer
+unfoldable pub written : Choice → Record → List ℕ → Outcome (List ℕ)
+written choice rec buffer = after (recordToWrite choice rec) (λ r. laid (controlOf choice) r buffer)
+
+-- the answer: how many bytes the telegram takes
+abbrev pub sizeOf : Outcome (List ℕ) → Outcome ℕ
+sizeOf (done bytes) = done (length bytes)
+sizeOf (refused n) = refused n
+
+-- "a refused write leaves the buffer untouched; a successful one changes only the telegram's own bytes"
+abbrev pub laidIn : Outcome (List ℕ) → List ℕ → List ℕ
+laidIn (done bytes) buffer = bytes ++ drop (length bytes) buffer
+laidIn (refused n) buffer = buffer
+
+-- Several, one behind another.
+
+-- "each go into the room after the last"; the count runs free
+abbrev pub oneMore : Several → Outcome (List ℕ) → Several
+oneMore several (done bytes) =
+    record { count = (several .count + 1) % 2 ^ 64; used = several .used + length bytes; refusal = 0 }
+oneMore several (refused n) = record { count = several .count; used = several .used; refusal = n }
+
+-- "the first refusal ends it, the earlier ones stay"
+unfoldable pub severalAfter : Choice → Several → Record → List ℕ → Several
+severalAfter choice several rec buffer =
+    cond (eqb (several .refusal) 0) (oneMore several (written choice rec (drop (several .used) buffer))) several
+
+unfoldable pub bufferAfter : Choice → Several → Record → List ℕ → List ℕ
+bufferAfter choice several rec buffer =
+    cond (eqb (several .refusal) 0)
+    (take (several .used) buffer ++ laidIn (written choice rec (drop (several .used) buffer)) (drop (several .used) buffer))
+    buffer

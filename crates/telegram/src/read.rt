@@ -1,0 +1,84 @@
+// Reading one telegram. Each refusal is a test of its own over the whole telegram, and the lowest that holds is given.
+use super::{ETX, STX};
+use layouts::Layout;
+use layouts::rows::LayoutAnswer;
+use record::Record;
+use record::RecordAnswer;
+use refusals::{DIGIT, FIXED_CHARACTER, FRAME, LENGTH, NONE, STATUS_OR_WEEKDAY};
+
+ghost use mathlib.Core.Path.{_≡_};
+ghost use mathlib.Core.Bool.{true};
+ghost use Rattle.record.specs.Answers.{recordAnswer};
+ghost use Rattle.telegram.specs.Reading.{framed, readBodyAs, readOf};
+
+// A body of a known layout: what stands between STX and ETX.
+fn read_as(layout: Layout, body: &[u8]) -> RecordAnswer
+    ensures { λ r. ⌜ recordAnswer r ≡ readBodyAs layout (now (body .entry)) ⌝ }
+{
+    let row = layouts::rows::row_of(layout);
+    let places = row.places;
+    let length = row.length;
+    let found = places::scan(&places[..length], body);
+    if !found.fixed {
+        return RecordAnswer::Refused(FIXED_CHARACTER);
+    }
+    if !found.decimals {
+        return RecordAnswer::Refused(DIGIT);
+    }
+    if !found.codes {
+        return RecordAnswer::Refused(STATUS_OR_WEEKDAY);
+    }
+    let digits = found.digits;
+    let rec = layouts::coding::record_in(layout, digits);
+    let refused = record::rule::refusal(rec);
+    if refused != NONE {
+        return RecordAnswer::Refused(refused);
+    }
+    RecordAnswer::Good(rec)
+}
+
+fn is_framed(bytes: &[u8]) -> bool
+    ensures { λ r. ⌜ r ≡ framed (now (bytes .entry)) ⌝ }
+{
+    let length = bytes.len();
+    if length < 1 {
+        return false;
+    }
+    if bytes[0] != STX {
+        return false;
+    }
+    bytes[length - 1] == ETX
+}
+
+fn read_framed(bytes: &[u8]) -> RecordAnswer
+    ensures { λ r. ⌜ recordAnswer r ≡ readOf true (now (bytes .entry)) ⌝ }
+{
+    let length = bytes.len();
+    if length < 2 {
+        return RecordAnswer::Refused(LENGTH);
+    }
+    let end = length - 1;
+    let body = &bytes[1..end];
+    match layouts::rows::layout_of(body) {
+        LayoutAnswer::Refused(number) => RecordAnswer::Refused(number),
+        LayoutAnswer::Found(layout) => {
+            if !is_framed(bytes) {
+                return RecordAnswer::Refused(FRAME);
+            }
+            read_as(layout, body)
+        }
+    }
+}
+
+// Reads one telegram: any bytes, with control characters wanted or not.
+pub fn read(bytes: &[u8], control: bool) -> RecordAnswer
+    ensures { λ r. ⌜ recordAnswer r ≡ readOf control (now (bytes .entry)) ⌝ }
+{
+    if control {
+        return read_framed(bytes);
+    }
+    match layouts::rows::layout_of(bytes) {
+        LayoutAnswer::Refused(number) => RecordAnswer::Refused(number),
+        LayoutAnswer::Found(layout) => read_as(layout, bytes),
+    }
+}

@@ -1,0 +1,5 @@
+pub struct Several {
+    pub count: usize,
+    pub used: usize,
+    pub refusal: u8,
+}

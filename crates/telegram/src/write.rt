@@ -1,0 +1,126 @@
+// Writing one telegram into a lent buffer.
+use super::{ETX, STX};
+use layouts::Layout;
+use record::DatedLayout;
+use record::Record;
+use record::RecordAnswer;
+use refusals::{BUFFER_SHORT, NONE, NO_DATE};
+
+ghost use mathlib.Core.Path.{_≡_};
+ghost use Rattle.record.specs.Answers.{recordAnswer};
+ghost use Rattle.layouts.specs.Layouts.{ownLayout};
+ghost use Rattle.telegram.specs.Writing.{as6021, judgedOf, recordToWrite, controlOf, laid, written, sizeOf, laidIn};
+ghost use Rattle.telegram.specs.Answers.{writeAnswer};
+
+pub struct Setting {
+    pub control: bool,
+    pub advance: bool,
+}
+
+// What a caller asks for: a setting by name, or none.
+pub enum Choice {
+    Named(Setting),
+    Unnamed,
+}
+
+pub enum WriteAnswer {
+    Written(usize),
+    Refused(u8),
+}
+
+fn own_layout(rec: Record) -> Layout
+    ensures { λ r. ⌜ r ≡ ownLayout rec ⌝ }
+{
+    match rec {
+        Record::Dated(layout, _, _, _, _) => Layout::Full(layout),
+        Record::TimeOnly(layout, _) => Layout::Brief(layout),
+    }
+}
+
+// The record as it is, if no rule refuses it.
+fn judged(rec: Record) -> RecordAnswer
+    ensures { λ r. ⌜ recordAnswer r ≡ judgedOf rec ⌝ }
+{
+    let refused = record::rule::refusal(rec);
+    if refused != NONE {
+        return RecordAnswer::Refused(refused);
+    }
+    RecordAnswer::Good(rec)
+}
+
+// The same fields in the 6021 layout.
+fn as_6021(rec: Record) -> RecordAnswer
+    ensures { λ r. ⌜ recordAnswer r ≡ as6021 rec ⌝ }
+{
+    match rec {
+        Record::Dated(_, status, weekday, date, time) => RecordAnswer::Good(Record::Dated(
+            DatedLayout::L6021,
+            status,
+            weekday,
+            date,
+            time,
+        )),
+        Record::TimeOnly(_, _) => RecordAnswer::Refused(NO_DATE),
+    }
+}
+
+// The record whose telegram is to be written.
+fn record_to_write(choice: Choice, rec: Record) -> RecordAnswer
+    ensures { λ r. ⌜ recordAnswer r ≡ recordToWrite choice rec ⌝ }
+{
+    match choice {
+        Choice::Named(setting) => {
+            if setting.advance {
+                return record::next::next_second(rec);
+            }
+            judged(rec)
+        }
+        Choice::Unnamed => match judged(rec) {
+            RecordAnswer::Refused(number) => RecordAnswer::Refused(number),
+            RecordAnswer::Good(good) => as_6021(good),
+        },
+    }
+}
+
+fn control_of(choice: Choice) -> bool
+    ensures { λ r. ⌜ r ≡ controlOf choice ⌝ }
+{
+    match choice {
+        Choice::Named(setting) => setting.control,
+        Choice::Unnamed => false,
+    }
+}
+
+// Lays a record's telegram into the buffer, if there is room for it.
+fn lay(rec: Record, control: bool, out: &mut [u8]) -> WriteAnswer
+    ensures { λ r. ⌜ (writeAnswer r ≡ sizeOf (laid control rec (now (out .entry)))) × (now (out .exit) ≡ laidIn (laid control rec (now (out .entry))) (now (out .entry))) ⌝ }
+{
+    let row = layouts::rows::row_of(own_layout(rec));
+    let places = row.places;
+    let length = row.length;
+    let digits = layouts::coding::digits_out(rec);
+    if control {
+        if out.len() < length + 2 {
+            return WriteAnswer::Refused(BUFFER_SHORT);
+        }
+        out[0] = STX;
+        places::render(&places[..length], digits, &mut out[1..]);
+        out[length + 1] = ETX;
+        return WriteAnswer::Written(length + 2);
+    }
+    if out.len() < length {
+        return WriteAnswer::Refused(BUFFER_SHORT);
+    }
+    places::render(&places[..length], digits, out);
+    WriteAnswer::Written(length)
+}
+
+// Writes one telegram at the front of the buffer. A refused write leaves every byte of it as it was.
+pub fn write(rec: Record, choice: Choice, out: &mut [u8]) -> WriteAnswer
+    ensures { λ r. ⌜ (writeAnswer r ≡ sizeOf (written choice rec (now (out .entry)))) × (now (out .exit) ≡ laidIn (written choice rec (now (out .entry))) (now (out .entry))) ⌝ }
+{
+    match record_to_write(choice, rec) {
+        RecordAnswer::Refused(number) => WriteAnswer::Refused(number),
+        RecordAnswer::Good(good) => lay(good, control_of(choice), out),
+    }
+}
