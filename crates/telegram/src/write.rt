@@ -1,14 +1,16 @@
 // Writing one telegram into a lent buffer.
 use super::{ETX, STX};
 use layouts::Layout;
+use layouts::rows::Row;
 use record::DatedLayout;
 use record::Record;
 use record::RecordAnswer;
 use refusals::{BUFFER_SHORT, NONE, NO_DATE};
 
 ghost use mathlib.Core.Path.{_≡_};
+ghost use mathlib.Core.Bool.{true, false};
 ghost use Rattle.record.specs.Answers.{recordAnswer};
-ghost use Rattle.layouts.specs.Layouts.{ownLayout};
+ghost use Rattle.layouts.specs.Layouts.{rowOf, rowRecord, ownLayout};
 ghost use Rattle.telegram.specs.Writing.{as6021, judgedOf, recordToWrite, controlOf, laid, written, sizeOf, laidIn};
 ghost use Rattle.telegram.specs.Answers.{writeAnswer};
 
@@ -91,28 +93,42 @@ fn control_of(choice: Choice) -> bool
     }
 }
 
-// Lays a record's telegram into the buffer, if there is room for it.
-fn lay(rec: Record, control: bool, out: &mut [u8]) -> WriteAnswer
-    ensures { λ r. ⌜ (writeAnswer r ≡ sizeOf (laid control rec (now (out .entry)))) × (now (out .exit) ≡ laidIn (laid control rec (now (out .entry))) (now (out .entry))) ⌝ }
+fn row_of(rec: Record) -> Row
+    ensures { λ r. ⌜ r ≡ rowRecord (rowOf (ownLayout rec)) ⌝ }
 {
-    let row = layouts::rows::row_of(own_layout(rec));
+    layouts::rows::row_of(own_layout(rec))
+}
+
+// Lays a record's telegram into the buffer without STX and ETX, if there is room for it.
+fn lay_bare(rec: Record, out: &mut [u8]) -> WriteAnswer
+    ensures { λ r. ⌜ (writeAnswer r ≡ sizeOf (laid false rec (now (out .entry)))) × (now (out .exit) ≡ laidIn (laid false rec (now (out .entry))) (now (out .entry))) ⌝ }
+{
+    let row = row_of(rec);
     let places = row.places;
     let length = row.length;
-    let digits = layouts::coding::digits_out(rec);
-    if control {
-        if out.len() < length + 2 {
-            return WriteAnswer::Refused(BUFFER_SHORT);
-        }
-        out[0] = STX;
-        places::render(&places[..length], digits, &mut out[1..]);
-        out[length + 1] = ETX;
-        return WriteAnswer::Written(length + 2);
-    }
     if out.len() < length {
         return WriteAnswer::Refused(BUFFER_SHORT);
     }
+    let digits = layouts::coding::digits_out(rec);
     places::render(&places[..length], digits, out);
     WriteAnswer::Written(length)
+}
+
+// The same between STX and ETX.
+fn lay_framed(rec: Record, out: &mut [u8]) -> WriteAnswer
+    ensures { λ r. ⌜ (writeAnswer r ≡ sizeOf (laid true rec (now (out .entry)))) × (now (out .exit) ≡ laidIn (laid true rec (now (out .entry))) (now (out .entry))) ⌝ }
+{
+    let row = row_of(rec);
+    let places = row.places;
+    let length = row.length;
+    if out.len() < length + 2 {
+        return WriteAnswer::Refused(BUFFER_SHORT);
+    }
+    let digits = layouts::coding::digits_out(rec);
+    out[0] = STX;
+    places::render(&places[..length], digits, &mut out[1..]);
+    out[length + 1] = ETX;
+    WriteAnswer::Written(length + 2)
 }
 
 // Writes one telegram at the front of the buffer. A refused write leaves every byte of it as it was.
@@ -121,6 +137,11 @@ pub fn write(rec: Record, choice: Choice, out: &mut [u8]) -> WriteAnswer
 {
     match record_to_write(choice, rec) {
         RecordAnswer::Refused(number) => WriteAnswer::Refused(number),
-        RecordAnswer::Good(good) => lay(good, control_of(choice), out),
+        RecordAnswer::Good(good) => {
+            if control_of(choice) {
+                return lay_framed(good, out);
+            }
+            lay_bare(good, out)
+        }
     }
 }

@@ -1,43 +1,51 @@
+-- `telegram::write::write` meets its contract.
+use mathlib.Core.Path.{refl, sym, ap, _∙_}
+use Rattle.record.specs.Answers.{recordAnswer}
+use Rattle.telegram.specs.Writing.{written, laid, sizeOf, laidIn, controlOf}
+use Rattle.telegram.proofs.WriteLaws.{written-refused, written-laid}
 use borrow.Author.Needs.{needs}
 use Rattle.telegram.proofs.write.write.Statement.{statement}
 use Rattle.telegram.proofs.write.write.Tie as tie
-use Rattle.telegram.proofs.write.write.Reads as reads
-use Rattle.telegram.proofs.write.write.Lts as lts
-use Rattle.telegram.proofs.write.control_of.Reads as control-of-reads
-use Rattle.telegram.proofs.write.lay.Reads as lay-reads
-use Rattle.telegram.proofs.write.record_to_write.Reads as record-to-write-reads
 
--- src/write.rt:122:11
 record-to-write-requires : tie.Need-record-to-write-requires
 record-to-write-requires c κs = search needs
 
--- src/write.rt:123:31
 enum-known-number : tie.Need-enum-known-number
 enum-known-number c = search needs
 
--- src/write.rt:124:28
 enum-known-good : tie.Need-enum-known-good
 enum-known-good c = search needs
 
--- src/write.rt:124:47
 control-of-requires : tie.Need-control-of-requires
 control-of-requires c κs = search needs
 
--- src/write.rt:124:37
-lay-requires : tie.Need-lay-requires
-lay-requires c κs = search needs
+lay-framed-requires : tie.Need-lay-framed-requires
+lay-framed-requires c κs = search needs
 
--- src/write.rt:119:1
-returns : tie.Need-returns
-returns c = ?
-
--- src/write.rt:119:1
 same-length : tie.Need-same-length
 same-length c = search needs
 
--- src/write.rt:119:1
+returns : tie.Need-returns
+returns c = 
+    let made = written-laid (c .before .before .before .before .before .before .before .before .before .before .before .args .choice) (c .before .before .before .before .before .before .before .before .before .before .before .args .rec) _ _ (c .before .before .before .before .before .before .before .before .before .before .before .args .out .now) (sym (c .before .before .before .before .before .before .before .before .before .record-to-write .ensures) ∙ ap recordAnswer (c .before .before .before .before .before .before .before .good2 .given .1)) (sym (c .before .before .before .before .before .control-of .ensures) ∙ c .before .before .before .before .if1 .taken) in
+    rw made (c .before .before .lay-framed .ensures)
+
+lay-bare-requires : tie.Need-lay-bare-requires
+lay-bare-requires c κs = search needs
+
 returns-2 : tie.Need-returns-2
-returns-2 c = ?
+returns-2 c = 
+    let none = written-refused (c .before .before .before .before .before .args .choice) (c .before .before .before .before .before .args .rec) _ (c .before .before .before .before .before .args .out .now)
+        (sym (c .before .before .before .record-to-write .ensures) ∙ ap recordAnswer (c .before .number .given .1)) in
+    rw none (refl, refl)
+
+same-length-2 : tie.Need-same-length-2
+same-length-2 c = search needs
+
+returns-3 : tie.Need-returns-3
+returns-3 c = 
+    let made = written-laid (c .before .before .before .before .before .before .before .before .before .before .before .args .choice) (c .before .before .before .before .before .before .before .before .before .before .before .args .rec) _ _ (c .before .before .before .before .before .before .before .before .before .before .before .args .out .now) (sym (c .before .before .before .before .before .before .before .before .before .record-to-write .ensures) ∙ ap recordAnswer (c .before .before .before .before .before .before .before .good2 .given .1)) (sym (c .before .before .before .before .before .control-of .ensures) ∙ c .before .before .before .before .if1 .left) in
+    rw made (c .before .before .lay-bare .ensures)
 
 pub write-spec : {M : Type 1} → statement M
 write-spec =
@@ -47,7 +55,10 @@ write-spec =
     enum-known-number
     enum-known-good
     control-of-requires
-    lay-requires
-    returns
+    lay-framed-requires
     same-length
-    returns-2)
+    returns
+    lay-bare-requires
+    returns-2
+    same-length-2
+    returns-3)
