@@ -1,2 +1,6 @@
 pub mod ReadLaws
 pub mod WriteLaws
+pub mod SeveralLaws
+pub mod Frames
+pub mod BackAndForth
+pub mod Demand

@@ -7,18 +7,24 @@ use native.Mathlib.Numerals.{add-one, add-two}
 use native.Mathlib.Omega.{arith}
 use lib.ListN.{length, take, drop, set, length-append, length-set, length-drop, drop-of-length-le}
 use lib.Seq.{take-all, drop-cons, set-at, take-length, drop-length}
-use borrow.Author.Tests.{lt-ltb, le-ltb}
+use lib.Dec.{ltb}
+use borrow.Author.Tests.{lt-ltb, le-ltb, ltb-false}
 use borrow.Rule.Slice.PartMut.{putMid}
-use Rattle.refusals.specs.Refusals.{Outcome, done, refused, unless}
+use Rattle.refusals.specs.Refusals.{_when_, Outcome, done, refused, unless, after}
+use Rattle.refusals.proofs.Laws.{was-done, when-none, refused-some}
 use Rattle.places.specs.Places.{place, render, over}
 use Rattle.places.proofs.Rendering.{length-render}
 use Rattle.record.specs.declared.Record.{Record}
+use Rattle.record.specs.declared.Record.the-variants.{Dated, TimeOnly}
+use Rattle.record.specs.Rule.{refusalOf}
+use Rattle.record.specs.Next.{recordAfter, nextSecondOf}
 use Rattle.layouts.specs.declared.rows.Row.{Row}
 use Rattle.layouts.specs.Layouts.{rowOf, rowRecord, ownLayout}
 use Rattle.layouts.specs.Coding.{digitsOut}
 use Rattle.layouts.proofs.RowLaws.{kept-row, kept-length, row-length}
-use Rattle.telegram.specs.Writing.{bodyBytes, telegramOf, recordToWrite, controlOf, laid, written, sizeOf, laidIn}
+use Rattle.telegram.specs.Writing.{bodyBytes, telegramOf, judgedOf, as6021, recordToWrite, controlOf, laid, written, sizeOf, laidIn}
 use Rattle.telegram.specs.declared.write.Choice.{Choice}
+use Rattle.telegram.specs.declared.write.Choice.the-variants.{Named, Unnamed}
 
 pub length-body : (rec : Record) → length (bodyBytes rec) ≡ length (rowOf (ownLayout rec))
 unfolding bodyBytes
@@ -28,12 +34,12 @@ pub length-framed : (rec : Record) → length (telegramOf true rec) ≡ length (
 length-framed rec = omega (arith, length-append (bodyBytes rec) (3 ∷ []))
 
 -- there is no room, or there is
-module _ (control : Bool) (rec : Record) (out : List ℕ) where
-  pub no-room : length out < length (telegramOf control rec) → laid control rec out ≡ refused 13
+module _ (control : Bool) (rec : Record) (n : ℕ) where
+  pub no-room : n < length (telegramOf control rec) → laid control rec n ≡ refused 13
   unfolding laid unless
   no-room h = rw (lt-ltb _ _ h)
 
-  pub room : length (telegramOf control rec) ≤ length out → laid control rec out ≡ done (telegramOf control rec)
+  pub room : length (telegramOf control rec) ≤ n → laid control rec n ≡ done (telegramOf control rec)
   unfolding laid unless
   room h = rw (le-ltb _ _ h)
 
@@ -72,7 +78,7 @@ pub length-over : (bytes out : List ℕ) → length bytes ≤ length out → len
 length-over bytes out h = rw (over-room bytes out h) (simp (length-append, length-drop) (omega arith))
 
 module _ (bytes out last : List ℕ) (fits : length bytes + 2 ≤ length out)
-  (e : last ≡ over bytes (take (length (set out 0 2) - 1) (drop 1 (set out 0 2)))) where
+    (e : last ≡ over bytes (take (length (set out 0 2) - 1) (drop 1 (set out 0 2)))) where
   pub behind-stx : last ≡ over bytes (drop 1 out)
   behind-stx = e ∙ ap (over bytes) (part-lent out (omega arith))
 
@@ -97,13 +103,59 @@ module _ (bytes out last : List ℕ) (fits : length bytes + 2 ≤ length out)
 pub row-small : (row : Row) (rec : Record) → row ≡ rowRecord (rowOf (ownLayout rec)) → row .length ≤ 23
 row-small row rec kept = omega (arith, kept-length row (ownLayout rec) kept, row-length (ownLayout rec) .1)
 
--- the record that a choice writes decides
-module _ (choice : Choice) (rec : Record) where
-  pub written-refused : (n : ℕ) (out : List ℕ) → recordToWrite choice rec ≡ refused n → written choice rec out ≡ refused n
-  unfolding written
-  written-refused n out e = rw e
+-- a record that is refused is refused with a number
+judged-some : (rec : Record) (k : ℕ) → judgedOf rec ≡ refused k → k ≡ 0 → ⊥
+judged-some rec k e = refused-some (refusalOf rec) k rec e
 
-  pub written-laid : (control : Bool) (good : Record) (out : List ℕ) → recordToWrite choice rec ≡ done good → controlOf choice ≡ control
-      → written choice rec out ≡ laid control good out
+as-6021-some : (rec : Record) (k : ℕ) → as6021 rec ≡ refused k → k ≡ 0 → ⊥
+as-6021-some (Dated layout status weekday date time) k e none = let z : _≡_ {A = ℕ} 0 1 = cc in absurd (omega arith)
+as-6021-some (TimeOnly layout time) k e none = let same : 14 ≡ k = cc in absurd (omega arith)
+
+record-some : (choice : Choice) (rec : Record) (k : ℕ) → recordToWrite choice rec ≡ refused k → k ≡ 0 → ⊥
+unfolding nextSecondOf
+record-some (Named setting) rec k = go (setting .advance)
+  where
+    go : (advance : Bool) → cond advance (nextSecondOf rec) (judgedOf rec) ≡ refused k → k ≡ 0 → ⊥
+    go true e = refused-some _ k (recordAfter rec) e
+    go false e = judged-some rec k e
+record-some Unnamed rec k = go (judgedOf rec) refl
+  where
+    go : (o : Outcome Record) → judgedOf rec ≡ o → after o as6021 ≡ refused k → k ≡ 0 → ⊥
+    go (done good) f e none = as-6021-some good k e none
+    go (refused m) f e none = judged-some rec m f (let same : m ≡ k = cc in same ∙ none)
+
+-- the record that a choice writes decides
+module _ (choice : Choice) (rec : Record) (n : ℕ) where
+  pub written-refused : (k : ℕ) → recordToWrite choice rec ≡ refused k → written choice rec n ≡ refused k
   unfolding written
-  written-laid control good out e f = rw (e, f)
+  written-refused k e = rw e
+
+  pub written-laid : (control : Bool) (good : Record) → recordToWrite choice rec ≡ done good → controlOf choice ≡ control
+      → written choice rec n ≡ laid control good n
+  unfolding written
+  written-laid control good e f = rw (e, f)
+
+  -- what is written fits
+  pub written-fits : (bytes : List ℕ) → written choice rec n ≡ done bytes → length bytes ≤ n
+  unfolding written laid
+  written-fits bytes = go (recordToWrite choice rec)
+    where
+      go : (o : Outcome Record)
+          → after o (λ r. unless (13 when ltb n (length (telegramOf (controlOf choice) r))) (telegramOf (controlOf choice) r)) ≡ done bytes
+          → length bytes ≤ n
+      go (done r) e =
+          let made = was-done _ (telegramOf (controlOf choice) r) bytes e in
+          let long = ltb-false n (length (telegramOf (controlOf choice) r)) (when-none 12 _ (made .0)) in
+          omega (arith, ap length (made .1))
+      go (refused k) e = let z : _≡_ {A = ℕ} 0 1 = cc in absurd (omega arith)
+
+  -- and what is refused is refused with a number
+  pub written-some : (k : ℕ) → written choice rec n ≡ refused k → k ≡ 0 → ⊥
+  unfolding written laid
+  written-some k = go (recordToWrite choice rec) refl
+    where
+      go : (o : Outcome Record) → recordToWrite choice rec ≡ o
+          → after o (λ r. unless (13 when ltb n (length (telegramOf (controlOf choice) r))) (telegramOf (controlOf choice) r)) ≡ refused k
+          → k ≡ 0 → ⊥
+      go (done r) f e none = refused-some _ k (telegramOf (controlOf choice) r) e none
+      go (refused m) f e none = record-some choice rec m f (let same : m ≡ k = cc in same ∙ none)

@@ -1,7 +1,7 @@
 -- Document 01, "Refusal numbers": writing one telegram, and several one behind another.
 use mathlib.Core.Bool.{Bool, false, cond}
 use mathlib.Core.List.{List, [], _∷_, _++_}
-use Prim.Native.Nat.{ℕ, zero, suc, _+_, _%_, _^_}
+use Prim.Native.Nat.{ℕ, _+_, _-_, _%_, _^_}
 use lib.Dec.{ltb, eqb}
 use lib.ListN.{length, take, drop}
 use Rattle.refusals.specs.Refusals.{_when_, _else_, Outcome, done, refused, unless, after}
@@ -47,13 +47,12 @@ controlOf (Named setting) = setting .control
 controlOf Unnamed = false
 
 -- 13: "the lent buffer is shorter than what is to be written"
-unfoldable pub laid : Bool → Record → List ℕ → Outcome (List ℕ)
-laid control rec buffer =
-    unless (13 when ltb (length buffer) (length (telegramOf control rec))) (telegramOf control rec)
+unfoldable pub laid : Bool → Record → ℕ → Outcome (List ℕ)
+laid control rec room = unless (13 when ltb room (length (telegramOf control rec))) (telegramOf control rec)
 
--- the telegram that is written into a buffer
-unfoldable pub written : Choice → Record → List ℕ → Outcome (List ℕ)
-written choice rec buffer = after (recordToWrite choice rec) (λ r. laid (controlOf choice) r buffer)
+-- the telegram that is written into a buffer of so many bytes
+unfoldable pub written : Choice → Record → ℕ → Outcome (List ℕ)
+written choice rec room = after (recordToWrite choice rec) (λ r. laid (controlOf choice) r room)
 
 -- the answer: how many bytes the telegram takes
 abbrev pub sizeOf : Outcome (List ℕ) → Outcome ℕ
@@ -67,6 +66,10 @@ laidIn (refused n) buffer = buffer
 
 -- Several, one behind another.
 
+-- nothing written yet
+abbrev pub noneYet : Several
+noneYet = record { count = 0; used = 0; refusal = 0 }
+
 -- "each go into the room after the last"; the count runs free
 abbrev pub oneMore : Several → Outcome (List ℕ) → Several
 oneMore several (done bytes) =
@@ -76,10 +79,39 @@ oneMore several (refused n) = record { count = several .count; used = several .u
 -- "the first refusal ends it, the earlier ones stay"
 unfoldable pub severalAfter : Choice → Several → Record → List ℕ → Several
 severalAfter choice several rec buffer =
-    cond (eqb (several .refusal) 0) (oneMore several (written choice rec (drop (several .used) buffer))) several
+    cond (eqb (several .refusal) 0) (oneMore several (written choice rec (length buffer - several .used))) several
 
 unfoldable pub bufferAfter : Choice → Several → Record → List ℕ → List ℕ
 bufferAfter choice several rec buffer =
     cond (eqb (several .refusal) 0)
-    (take (several .used) buffer ++ laidIn (written choice rec (drop (several .used) buffer)) (drop (several .used) buffer))
+    (take (several .used) buffer ++ laidIn (written choice rec (length buffer - several .used)) (drop (several .used) buffer))
     buffer
+
+-- a whole list, one after the other: how it stands in the end, and the buffer
+abbrev pub severalAll : Choice → List Record → Several → List ℕ → Several × List ℕ
+severalAll choice [] several buffer = (several, buffer)
+severalAll choice (rec ∷ recs) several buffer =
+    severalAll choice recs (severalAfter choice several rec buffer) (bufferAfter choice several rec buffer)
+
+-- the telegrams that stand in a room of so many bytes: those of the first records, up to the first refusal
+abbrev pub andThen : Outcome (List ℕ) → (List ℕ → List (List ℕ)) → List (List ℕ)
+andThen (done bytes) next = bytes ∷ next bytes
+andThen (refused n) next = []
+
+abbrev pub standing : Choice → List Record → ℕ → List (List ℕ)
+standing choice [] room = []
+standing choice (rec ∷ recs) room = andThen (written choice rec room) (λ bytes. standing choice recs (room - length bytes))
+
+-- and the refusal that ended it, 0 where there was none
+abbrev pub orElse : Outcome (List ℕ) → (List ℕ → ℕ) → ℕ
+orElse (done bytes) next = next bytes
+orElse (refused n) next = n
+
+abbrev pub firstRefusal : Choice → List Record → ℕ → ℕ
+firstRefusal choice [] room = 0
+firstRefusal choice (rec ∷ recs) room = orElse (written choice rec room) (λ bytes. firstRefusal choice recs (room - length bytes))
+
+-- one behind another
+abbrev pub joined : List (List ℕ) → List ℕ
+joined [] = []
+joined (bytes ∷ more) = bytes ++ joined more

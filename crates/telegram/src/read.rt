@@ -1,11 +1,16 @@
 // Reading one telegram. Each refusal is a test of its own over the whole telegram, and the lowest that holds is given.
-use super::{ETX, STX};
+use super::ETX;
+use super::STX;
 use layouts::Layout;
 use layouts::rows::LayoutAnswer;
 use record::Record;
 use record::RecordAnswer;
-use refusals::{DIGIT, FIXED_CHARACTER, FRAME, LENGTH, NONE, STATUS_OR_WEEKDAY};
-
+use refusals::DIGIT;
+use refusals::FIXED_CHARACTER;
+use refusals::FRAME;
+use refusals::LENGTH;
+use refusals::NONE;
+use refusals::STATUS_OR_WEEKDAY;
 ghost use mathlib.Core.Path.{_≡_};
 ghost use mathlib.Core.Bool.{true};
 ghost use Rattle.record.specs.Answers.{recordAnswer};

@@ -1,5 +1,60 @@
+// Several telegrams, one behind another, in one lent buffer. A list of any length is written by one call for each record.
+use super::write::Choice;
+use super::write::WriteAnswer;
+use super::write::write;
+use record::Record;
+use refusals::NONE;
+ghost use mathlib.Core.Path.{_≡_};
+ghost use Prim.Native.Nat.{min};
+ghost use Rattle.telegram.specs.Writing.{noneYet, severalAfter, bufferAfter};
+
+// How many telegrams stand, how many bytes they take, and the refusal that ended it, if any.
 pub struct Several {
     pub count: usize,
     pub used: usize,
     pub refusal: u8,
+}
+
+fn smaller(a: usize, b: usize) -> usize
+    ensures { λ r. ⌜ r ≡ min a b ⌝ }
+{
+    if a <= b {
+        return a;
+    }
+    b
+}
+
+impl Several {
+    pub fn start() -> Several
+        ensures { λ r. ⌜ r ≡ noneYet ⌝ }
+    {
+        Several {
+            count: 0,
+            used: 0,
+            refusal: NONE,
+        }
+    }
+
+    // One more telegram, into the room after the last. Once one was refused, nothing more is written.
+    pub fn add(self, rec: Record, choice: Choice, out: &mut [u8]) -> Several
+        ensures { λ r. ⌜ (r ≡ severalAfter choice self rec (now (out .entry))) × (now (out .exit) ≡ bufferAfter choice self rec (now (out .entry))) ⌝ }
+    {
+        if self.refusal != NONE {
+            return self;
+        }
+        let used = self.used;
+        let start = smaller(used, out.len());
+        match write(rec, choice, &mut out[start..]) {
+            WriteAnswer::Written(n) => Several {
+                count: std::num::wrapping_add_usize(self.count, 1),
+                used: used + n,
+                refusal: NONE,
+            },
+            WriteAnswer::Refused(number) => Several {
+                count: self.count,
+                used,
+                refusal: number,
+            },
+        }
+    }
 }

@@ -1,14 +1,17 @@
 // Writing one telegram into a lent buffer.
-use super::{ETX, STX};
+use super::ETX;
+use super::STX;
 use layouts::Layout;
 use layouts::rows::Row;
 use record::DatedLayout;
 use record::Record;
 use record::RecordAnswer;
-use refusals::{BUFFER_SHORT, NONE, NO_DATE};
-
+use refusals::BUFFER_SHORT;
+use refusals::NO_DATE;
+use refusals::NONE;
 ghost use mathlib.Core.Path.{_≡_};
 ghost use mathlib.Core.Bool.{true, false};
+ghost use lib.ListN.{length};
 ghost use Rattle.record.specs.Answers.{recordAnswer};
 ghost use Rattle.layouts.specs.Layouts.{rowOf, rowRecord, ownLayout};
 ghost use Rattle.telegram.specs.Writing.{as6021, judgedOf, recordToWrite, controlOf, laid, written, sizeOf, laidIn};
@@ -101,7 +104,7 @@ fn row_of(rec: Record) -> Row
 
 // Lays a record's telegram into the buffer without STX and ETX, if there is room for it.
 fn lay_bare(rec: Record, out: &mut [u8]) -> WriteAnswer
-    ensures { λ r. ⌜ (writeAnswer r ≡ sizeOf (laid false rec (now (out .entry)))) × (now (out .exit) ≡ laidIn (laid false rec (now (out .entry))) (now (out .entry))) ⌝ }
+    ensures { λ r. ⌜ (writeAnswer r ≡ sizeOf (laid false rec (length (now (out .entry))))) × (now (out .exit) ≡ laidIn (laid false rec (length (now (out .entry)))) (now (out .entry))) ⌝ }
 {
     let row = row_of(rec);
     let places = row.places;
@@ -116,7 +119,7 @@ fn lay_bare(rec: Record, out: &mut [u8]) -> WriteAnswer
 
 // The same between STX and ETX.
 fn lay_framed(rec: Record, out: &mut [u8]) -> WriteAnswer
-    ensures { λ r. ⌜ (writeAnswer r ≡ sizeOf (laid true rec (now (out .entry)))) × (now (out .exit) ≡ laidIn (laid true rec (now (out .entry))) (now (out .entry))) ⌝ }
+    ensures { λ r. ⌜ (writeAnswer r ≡ sizeOf (laid true rec (length (now (out .entry))))) × (now (out .exit) ≡ laidIn (laid true rec (length (now (out .entry)))) (now (out .entry))) ⌝ }
 {
     let row = row_of(rec);
     let places = row.places;
@@ -133,7 +136,7 @@ fn lay_framed(rec: Record, out: &mut [u8]) -> WriteAnswer
 
 // Writes one telegram at the front of the buffer. A refused write leaves every byte of it as it was.
 pub fn write(rec: Record, choice: Choice, out: &mut [u8]) -> WriteAnswer
-    ensures { λ r. ⌜ (writeAnswer r ≡ sizeOf (written choice rec (now (out .entry)))) × (now (out .exit) ≡ laidIn (written choice rec (now (out .entry))) (now (out .entry))) ⌝ }
+    ensures { λ r. ⌜ (writeAnswer r ≡ sizeOf (written choice rec (length (now (out .entry))))) × (now (out .exit) ≡ laidIn (written choice rec (length (now (out .entry)))) (now (out .entry))) ⌝ }
 {
     match record_to_write(choice, rec) {
         RecordAnswer::Refused(number) => WriteAnswer::Refused(number),

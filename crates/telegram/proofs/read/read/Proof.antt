@@ -27,12 +27,12 @@ read-as-requires : tie.Need-read-as-requires
 read-as-requires c κs = search needs
 
 returns-2 : tie.Need-returns-2
-returns-2 c = 
+returns-2 c =
     no-layout false (c .before .before .before .before .before .before .args .bytes .now) _ (sym (c .before .before .before .layout-of .ensures) ∙ ap layoutAnswer (c .before .number .given .1))
     ∙ ap (λ control. readOf control (c .before .before .before .before .before .before .args .bytes .now)) (sym (c .before .before .before .before .if1 .left))
 
 returns-3 : tie.Need-returns-3
-returns-3 c = 
+returns-3 c =
     c .read-as .ensures
     ∙ by-body false (c .before .before .before .before .before .before .before .args .bytes .now) _ (sym (c .before .before .before .before .layout-of .ensures) ∙ ap layoutAnswer (c .before .before .layout .given .1)) refl
     ∙ ap (λ control. readOf control (c .before .before .before .before .before .before .before .args .bytes .now)) (sym (c .before .before .before .before .before .if1 .left))

@@ -29,7 +29,7 @@ returns-2 : tie.Need-returns-2
 returns-2 c = ends-4 _ _ _ (seen _ _ _ _ (c .before .before .before .before .before .before .before .row-of .ensures) (c .before .before .before .before .scan .ensures)) (not-false _ (c .before .before .if1 .left)) (not-true _ (c .if2 .taken))
 
 returns-3 : tie.Need-returns-3
-returns-3 c = 
+returns-3 c =
     ends-5 _ _ _ (seen _ _ _ _ (c .before .before .before .before .before .before .before .before .before .row-of .ensures) (c .before .before .before .before .before .before .scan .ensures)) (not-false _ (c .before .before .before .before .if1 .left)) (not-false _ (c .before .before .if2 .left)) (not-true _ (c .if3 .taken))
 
 record-in-requires : tie.Need-record-in-requires
@@ -39,13 +39,13 @@ refusal-requires : tie.Need-refusal-requires
 refusal-requires c κs = search needs
 
 returns-4 : tie.Need-returns-4
-returns-4 c = 
+returns-4 c =
     let found = seen _ _ _ _ (c .before .before .before .before .before .before .before .before .before .before .before .before .before .row-of .ensures) (c .before .before .before .before .before .before .before .before .before .before .scan .ensures) in
     let same = c .before .refusal .ensures ∙ ap refusalOf (c .before .before .record-in .ensures ∙ sym (carried-is _ _ _ found)) in
     ends-refused _ _ _ found (not-false _ (c .before .before .before .before .before .before .before .before .if1 .left)) (not-false _ (c .before .before .before .before .before .before .if2 .left)) (not-false _ (c .before .before .before .before .if3 .left)) _ same (c .if4 .taken)
 
 returns-5 : tie.Need-returns-5
-returns-5 c = 
+returns-5 c =
     let found = seen _ _ _ _ (c .before .before .before .before .before .before .before .before .before .before .before .before .before .row-of .ensures) (c .before .before .before .before .before .before .before .before .before .before .scan .ensures) in
     let carried = c .before .before .record-in .ensures ∙ sym (carried-is _ _ _ found) in
     let none = ap refusalOf (sym carried) ∙ sym (c .before .refusal .ensures) ∙ c .if4 .left in

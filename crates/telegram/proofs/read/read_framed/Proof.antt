@@ -38,7 +38,7 @@ is-framed-requires : tie.Need-is-framed-requires
 is-framed-requires c κs = search needs
 
 returns-2 : tie.Need-returns-2
-returns-2 c = 
+returns-2 c =
     let body = body-between (c .before .before .before .before .before .before .before .before .before .args .bytes .now) in
     not-framed true (c .before .before .before .before .before .before .before .before .before .args .bytes .now) _
     (ap layoutOf (sym body) ∙ sym (c .before .before .before .before .before .layout-of .ensures) ∙ ap layoutAnswer (c .before .before .before .layout .given .1))
@@ -48,13 +48,13 @@ read-as-requires : tie.Need-read-as-requires
 read-as-requires c κs = search needs
 
 returns-3 : tie.Need-returns-3
-returns-3 c = 
+returns-3 c =
     let body = body-between (c .before .before .before .before .before .before .before .args .bytes .now) in
     no-layout true (c .before .before .before .before .before .before .before .args .bytes .now) _
     (ap layoutOf (sym body) ∙ sym (c .before .before .before .layout-of .ensures) ∙ ap layoutAnswer (c .before .number .given .1))
 
 returns-4 : tie.Need-returns-4
-returns-4 c = 
+returns-4 c =
     let body = body-between (c .before .before .before .before .before .before .before .before .before .before .args .bytes .now) in
     c .read-as .ensures
     ∙ ap (readBodyAs _) body

@@ -22,10 +22,10 @@ add-if1 : tie.Need-add-if1
 add-if1 c = omega (arith, row-small _ (c .before .before .before .args .rec) (c .before .row-of .ensures))
 
 returns : tie.Need-returns
-returns c = 
+returns c =
     let rec = c .before .before .before .before .args .rec in
     let n = kept-length _ _ (c .before .before .row-of .ensures) in
-    let short = no-room true rec (c .before .before .before .before .args .out .now) (omega (arith, c .if1 .taken, n, length-body rec, length-framed rec)) in
+    let short = no-room true rec (length (c .before .before .before .before .args .out .now)) (omega (arith, c .if1 .taken, n, length-body rec, length-framed rec)) in
     rw short (refl, refl)
 
 digits-out-requires : tie.Need-digits-out-requires
@@ -56,7 +56,7 @@ add-out : tie.Need-add-out
 add-out c = search needs
 
 slice-write-out-2 : tie.Need-slice-write-out-2
-slice-write-out-2 c = 
+slice-write-out-2 c =
     let rec = c .before .before .before .before .before .before .before .before .before .before .args .rec in
     let out = c .before .before .before .before .before .before .before .before .before .before .args .out .now in
     let last = c .before .before .render .last .1 .1 .0 in
@@ -70,7 +70,7 @@ add-t7 : tie.Need-add-t7
 add-t7 c = search needs
 
 same-length : tie.Need-same-length
-same-length c = 
+same-length c =
     let rec = c .before .before .before .before .before .before .before .before .before .before .args .rec in
     let out = c .before .before .before .before .before .before .before .before .before .before .args .out .now in
     let last = c .before .before .render .last .1 .1 .0 in
@@ -81,14 +81,14 @@ same-length c =
     ∙ length-framing (bodyBytes rec) out last fits made
 
 returns-2 : tie.Need-returns-2
-returns-2 c = 
+returns-2 c =
     let rec = c .before .before .before .before .before .before .before .before .before .before .args .rec in
     let out = c .before .before .before .before .before .before .before .before .before .before .args .out .now in
     let last = c .before .before .render .last .1 .1 .0 in
     let n = kept-length _ _ (c .before .before .before .before .before .before .before .before .row-of .ensures) ∙ sym (length-body rec) in
     let fits : length (bodyBytes rec) + 2 ≤ length out = omega (arith, c .before .before .before .before .before .before .if1 .left, n) in
     let made = body-laid _ rec _ last _ (c .before .before .before .before .before .before .before .before .row-of .ensures) (c .before .before .before .before .before .digits-out .ensures) (c .before .before .render .ensures) in
-    let all = room true rec out (omega (arith, length-framed rec)) in
+    let all = room true rec (length out) (omega (arith, length-framed rec)) in
     let size = ap (λ k. k + 2) n ∙ sym (length-framed rec) in
     let back = putMid 1 (length (set out 0 2) - 1) (set out 0 2) last in
     rw all

@@ -38,12 +38,12 @@ returns-2 : tie.Need-returns-2
 returns-2 c = rw (c .before .before .before .choice .given .1, c .before .if1 .left) (c .judged .ensures)
 
 returns-3 : tie.Need-returns-3
-returns-3 c = 
+returns-3 c =
     rw (c .before .before .before .before .enum-told .given .1)
     (ap (λ o. after o as6021) (ap recordAnswer (sym (c .before .number .given .1)) ∙ c .before .before .before .judged2 .ensures))
 
 returns-4 : tie.Need-returns-4
-returns-4 c = 
+returns-4 c =
     rw (c .before .before .before .before .before .enum-told .given .1)
     (c .as-6021 .ensures ∙ ap (λ o. after o as6021) (ap recordAnswer (sym (c .before .before .good2 .given .1)) ∙ c .before .before .before .before .judged2 .ensures))
 

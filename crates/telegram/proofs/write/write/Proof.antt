@@ -1,5 +1,6 @@
 -- `telegram::write::write` meets its contract.
 use mathlib.Core.Path.{refl, sym, ap, _∙_}
+use lib.ListN.{length}
 use Rattle.record.specs.Answers.{recordAnswer}
 use Rattle.telegram.specs.Writing.{written, laid, sizeOf, laidIn, controlOf}
 use Rattle.telegram.proofs.WriteLaws.{written-refused, written-laid}
@@ -26,25 +27,25 @@ same-length : tie.Need-same-length
 same-length c = search needs
 
 returns : tie.Need-returns
-returns c = 
-    let made = written-laid (c .before .before .before .before .before .before .before .before .before .before .before .args .choice) (c .before .before .before .before .before .before .before .before .before .before .before .args .rec) _ _ (c .before .before .before .before .before .before .before .before .before .before .before .args .out .now) (sym (c .before .before .before .before .before .before .before .before .before .record-to-write .ensures) ∙ ap recordAnswer (c .before .before .before .before .before .before .before .good2 .given .1)) (sym (c .before .before .before .before .before .control-of .ensures) ∙ c .before .before .before .before .if1 .taken) in
+returns c =
+    let made = written-laid (c .before .before .before .before .before .before .before .before .before .before .before .args .choice) (c .before .before .before .before .before .before .before .before .before .before .before .args .rec) (length (c .before .before .before .before .before .before .before .before .before .before .before .args .out .now)) _ _ (sym (c .before .before .before .before .before .before .before .before .before .record-to-write .ensures) ∙ ap recordAnswer (c .before .before .before .before .before .before .before .good2 .given .1)) (sym (c .before .before .before .before .before .control-of .ensures) ∙ c .before .before .before .before .if1 .taken) in
     rw made (c .before .before .lay-framed .ensures)
 
 lay-bare-requires : tie.Need-lay-bare-requires
 lay-bare-requires c κs = search needs
 
 returns-2 : tie.Need-returns-2
-returns-2 c = 
-    let none = written-refused (c .before .before .before .before .before .args .choice) (c .before .before .before .before .before .args .rec) _ (c .before .before .before .before .before .args .out .now)
-        (sym (c .before .before .before .record-to-write .ensures) ∙ ap recordAnswer (c .before .number .given .1)) in
+returns-2 c =
+    let none = written-refused (c .before .before .before .before .before .args .choice) (c .before .before .before .before .before .args .rec) (length (c .before .before .before .before .before .args .out .now)) _
+    (sym (c .before .before .before .record-to-write .ensures) ∙ ap recordAnswer (c .before .number .given .1)) in
     rw none (refl, refl)
 
 same-length-2 : tie.Need-same-length-2
 same-length-2 c = search needs
 
 returns-3 : tie.Need-returns-3
-returns-3 c = 
-    let made = written-laid (c .before .before .before .before .before .before .before .before .before .before .before .args .choice) (c .before .before .before .before .before .before .before .before .before .before .before .args .rec) _ _ (c .before .before .before .before .before .before .before .before .before .before .before .args .out .now) (sym (c .before .before .before .before .before .before .before .before .before .record-to-write .ensures) ∙ ap recordAnswer (c .before .before .before .before .before .before .before .good2 .given .1)) (sym (c .before .before .before .before .before .control-of .ensures) ∙ c .before .before .before .before .if1 .left) in
+returns-3 c =
+    let made = written-laid (c .before .before .before .before .before .before .before .before .before .before .before .args .choice) (c .before .before .before .before .before .before .before .before .before .before .before .args .rec) (length (c .before .before .before .before .before .before .before .before .before .before .before .args .out .now)) _ _ (sym (c .before .before .before .before .before .before .before .before .before .record-to-write .ensures) ∙ ap recordAnswer (c .before .before .before .before .before .before .before .good2 .given .1)) (sym (c .before .before .before .before .before .control-of .ensures) ∙ c .before .before .before .before .if1 .left) in
     rw made (c .before .before .lay-bare .ensures)
 
 pub write-spec : {M : Type 1} → statement M

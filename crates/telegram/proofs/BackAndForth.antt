@@ -1,0 +1,124 @@
+-- Demand 2, over the definitions: what is written reads back, and what reads is what is written. Assumes nothing.
+use mathlib.Core.Path.{_≡_, refl, ap, ap₂, sym, _∙_}
+use mathlib.Core.Bool.{Bool, true, false, cond, not, _&&_}
+use mathlib.Core.List.{List, [], _∷_, _++_}
+use Prim.Native.Nat.{ℕ, zero, suc, _≤_, _<_}
+use native.Mathlib.Omega.{arith}
+use lib.ListN.{length, getD}
+use borrow.Author.Tests.{not-false}
+use Rattle.refusals.specs.Refusals.{_when_, _else_, Outcome, done, refused, unless, after}
+use Rattle.refusals.proofs.Laws.{was-done, does, when-none, else-none}
+use Rattle.places.specs.Places.{fixedHolds, decimalHolds, codeHolds, every, gather, noDigits, render}
+use Rattle.places.proofs.Rows.{usedIn}
+use Rattle.places.proofs.RoundTrip.{Held, fixed-rendered, decimals-rendered, codes-rendered, gather-outside, reads-back, makes-again, held-gather, held-none, no-digit}
+use Rattle.record.specs.declared.Record.{Record}
+use Rattle.record.specs.Rule.{refusalOf}
+use Rattle.record.specs.Next.{nextSecondOf}
+use Rattle.record.proofs.NextLaws.{next-good}
+use Rattle.layouts.specs.declared.Layout.{Layout}
+use Rattle.layouts.specs.Layouts.{rowOf, ownLayout, layoutOf}
+use Rattle.layouts.specs.Coding.{recordIn, digitsOut}
+use Rattle.layouts.proofs.RowLaws.{row-distinct, row-sound, row-length, row-fits, found-again}
+use Rattle.layouts.proofs.Carried.{own-layout, record-back, digits-held, digits-idle, digits-back}
+use Rattle.telegram.specs.Reading.{bodyOf, framed, carried, bodyRefusal, readOf}
+use Rattle.telegram.specs.Writing.{bodyBytes, telegramOf}
+use Rattle.telegram.proofs.WriteLaws.{length-body}
+use Rattle.telegram.proofs.Frames.{body-of-frame, frame-is-framed, frame-of-body}
+
+-- A good record's body reads as that record.
+module _ (rec : Record) (none : refusalOf rec ≡ 0) where
+  body-layout : layoutOf (bodyBytes rec) ≡ done (ownLayout rec)
+  unfolding bodyBytes
+  body-layout =
+      found-again (ownLayout rec) (bodyBytes rec) (length-body rec) (fixed-rendered (rowOf (ownLayout rec)) (digitsOut rec))
+
+  body-carries : carried (ownLayout rec) (bodyBytes rec) ≡ rec
+  unfolding carried bodyBytes
+  body-carries =
+      ap (recordIn (ownLayout rec)) (reads-back (rowOf (ownLayout rec)) (digitsOut rec) (digits-held rec none) (row-sound (ownLayout rec)) (digits-idle rec))
+      ∙ record-back rec none
+
+  body-fits : (every fixedHolds (rowOf (ownLayout rec)) (bodyBytes rec) ≡ true)
+      × (every decimalHolds (rowOf (ownLayout rec)) (bodyBytes rec) ≡ true)
+      × (every codeHolds (rowOf (ownLayout rec)) (bodyBytes rec) ≡ true)
+  unfolding bodyBytes
+  body-fits =
+      (fixed-rendered (rowOf (ownLayout rec)) (digitsOut rec), decimals-rendered (rowOf (ownLayout rec)) (digitsOut rec), codes-rendered (rowOf (ownLayout rec)) (digitsOut rec))
+
+  body-good : bodyRefusal (ownLayout rec) (bodyBytes rec) ≡ 0
+  unfolding bodyRefusal
+  body-good = rw (body-fits .0, body-fits .1, body-fits .2) (ap refusalOf body-carries ∙ none)
+
+  telegram-body : (control : Bool) → bodyOf control (telegramOf control rec) ≡ bodyBytes rec
+  telegram-body true = body-of-frame (bodyBytes rec)
+  telegram-body false = refl
+
+  telegram-framed : (control : Bool) → (control && not (framed (telegramOf control rec))) ≡ false
+  telegram-framed true = rw (frame-is-framed (bodyBytes rec))
+  telegram-framed false = refl
+
+  -- (a) what the writer makes of a good record reads back as that record
+  pub written-reads-back : (control : Bool) → readOf control (telegramOf control rec) ≡ done rec
+  unfolding readOf
+  written-reads-back control =
+      rw (telegram-body control, body-layout, telegram-framed control) (does _ body-good ∙ ap done body-carries)
+
+-- A body that reads as a good record is what that record's body is.
+module _ (layout : Layout) (body : List ℕ) (same : length body ≡ length (rowOf layout)) (good : bodyRefusal layout body ≡ 0) where
+  tests : (every fixedHolds (rowOf layout) body ≡ true) × (every decimalHolds (rowOf layout) body ≡ true)
+      × (every codeHolds (rowOf layout) body ≡ true) × (refusalOf (carried layout body) ≡ 0)
+  unfolding bodyRefusal
+  tests =
+      let three = else-none (3 when not (every fixedHolds (rowOf layout) body)) _ good in
+      let four = else-none (4 when not (every decimalHolds (rowOf layout) body)) _ (three .1) in
+      let five = else-none (5 when not (every codeHolds (rowOf layout) body)) _ (four .1) in
+      (not-false _ (when-none 2 _ (three .0)), not-false _ (when-none 3 _ (four .0)), not-false _ (when-none 4 _ (five .0)), five .1)
+
+  digits-again : digitsOut (carried layout body) ≡ gather (rowOf layout) body noDigits
+  unfolding carried
+  digits-again =
+      digits-back layout (gather (rowOf layout) body noDigits)
+      (held-gather (rowOf layout) body noDigits (row-sound layout) (tests .1) (tests .2) held-none)
+      (λ slot idle. gather-outside (rowOf layout) body noDigits slot idle (row-sound layout) refl ∙ no-digit 16 slot)
+
+  layout-again : ownLayout (carried layout body) ≡ layout
+  unfolding carried
+  layout-again = own-layout layout (gather (rowOf layout) body noDigits)
+
+  body-again : bodyBytes (carried layout body) ≡ body
+  unfolding bodyBytes
+  body-again =
+      ap₂ (λ l d. render (rowOf l) d) layout-again digits-again
+      ∙ makes-again (rowOf layout) body noDigits (row-distinct layout) (row-sound layout) same refl (tests .0) (tests .1) (tests .2)
+
+-- (b) what the reader accepts is what the writer makes of the record it gave, and that record is good
+pub record Accepted (control : Bool) (bytes : List ℕ) (rec : Record) : Type 0 where
+  pub is-good : refusalOf rec ≡ 0
+  pub is-written : telegramOf control rec ≡ bytes
+
+telegram-again : (control : Bool) (bytes : List ℕ) (rec : Record) → bodyBytes rec ≡ bodyOf control bytes → 1 ≤ length (bodyOf control bytes)
+    → (control && not (framed bytes)) ≡ false → telegramOf control rec ≡ bytes
+telegram-again true bytes rec e some f =
+    ap (λ body. 2 ∷ body ++ 3 ∷ []) e ∙ frame-of-body bytes some (not-false _ f)
+telegram-again false bytes rec e some f = e
+
+pub accepted-is-written : (control : Bool) (bytes : List ℕ) (rec : Record) → readOf control bytes ≡ done rec → Accepted control bytes rec
+unfolding readOf
+accepted-is-written control bytes rec = go (layoutOf (bodyOf control bytes)) refl
+  where
+    body : List ℕ
+    body = bodyOf control bytes
+
+    go : (o : Outcome Layout) → layoutOf body ≡ o
+        → after o (λ layout. unless (2 when (control && not (framed bytes)) else bodyRefusal layout body) (carried layout body)) ≡ done rec
+        → Accepted control bytes rec
+    go (done layout) found e =
+        let read = was-done _ (carried layout body) rec e in
+        let parts = else-none (2 when (control && not (framed bytes))) _ (read .0) in
+        let fits = row-fits body layout found in
+        let again = ap bodyBytes (sym (read .1)) ∙ body-again layout body fits (parts .1) in
+        record {
+          is-good = ap refusalOf (sym (read .1)) ∙ tests layout body fits (parts .1) .3;
+          is-written = telegram-again control bytes rec again (omega (arith, fits, row-length layout .0)) (when-none 1 _ (parts .0));
+        }
+    go (refused n) found e = let z : _≡_ {A = ℕ} 0 1 = cc in absurd (omega arith)

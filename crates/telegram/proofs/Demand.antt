@@ -1,0 +1,95 @@
+-- What a write makes, read back: for each setting, and for none. Assumes nothing.
+use mathlib.Core.Path.{_≡_, refl, ap, sym, _∙_}
+use mathlib.Core.Bool.{Bool, true, false, cond}
+use mathlib.Core.List.{List, _++_}
+use Prim.Native.Nat.{ℕ, _≤_}
+use native.Mathlib.Omega.{arith}
+use lib.Dec.{ltb}
+use lib.ListN.{length, drop}
+use Rattle.refusals.specs.Refusals.{_when_, Outcome, done, refused, unless, after}
+use Rattle.refusals.proofs.Laws.{was-done}
+use Rattle.record.specs.declared.Record.{Record}
+use Rattle.record.specs.declared.Record.the-variants.{Dated, TimeOnly}
+use Rattle.record.specs.declared.DatedLayout.the-variants.{L6021}
+use Rattle.record.specs.Rule.{statusAllowed, refusalOf}
+use Rattle.record.specs.Next.{nextSecondOf}
+use Rattle.record.proofs.NextLaws.{next-good}
+use Rattle.record.proofs.RuleLaws as rule
+use Rattle.telegram.specs.declared.write.Setting.{Setting}
+use Rattle.telegram.specs.declared.write.Choice.{Choice}
+use Rattle.telegram.specs.declared.write.Choice.the-variants.{Named, Unnamed}
+use Rattle.telegram.specs.Reading.{readOf}
+use Rattle.telegram.specs.Writing.{telegramOf, judgedOf, as6021, recordToWrite, controlOf, laid, written, laidIn}
+use Rattle.telegram.proofs.BackAndForth.{written-reads-back}
+
+-- the record that a choice writes is good
+as-6021-good : (rec same : Record) → refusalOf rec ≡ 0 → as6021 rec ≡ done same → refusalOf same ≡ 0
+unfolding statusAllowed
+as-6021-good (Dated layout status weekday date time) same none e =
+    let g = rule.good layout status weekday date time none in
+    let is : Dated L6021 status weekday date time ≡ same = cc in
+    ap refusalOf (sym is)
+    ∙ rule.not-refused L6021 status weekday date time
+    (record {
+      status-allowed = refl;
+      weekday-allowed = g .weekday-allowed;
+      time-in-range = g .time-in-range;
+      date-good = g .date-good;
+      weekday-agrees = g .weekday-agrees;
+    })
+as-6021-good (TimeOnly layout time) same none e = let z : _≡_ {A = ℕ} 0 1 = cc in absurd (omega arith)
+
+judged-good : (rec same : Record) → judgedOf rec ≡ done same → (refusalOf rec ≡ 0) × (rec ≡ same)
+judged-good rec same e = was-done (refusalOf rec) rec same e
+
+pub written-is-good : (choice : Choice) (rec same : Record) → recordToWrite choice rec ≡ done same → refusalOf same ≡ 0
+written-is-good (Named setting) rec same = go (setting .advance)
+  where
+    go : (advance : Bool) → cond advance (nextSecondOf rec) (judgedOf rec) ≡ done same → refusalOf same ≡ 0
+    go true e = next-good rec same e
+    go false e = let j = judged-good rec same e in ap refusalOf (sym (j .1)) ∙ j .0
+written-is-good Unnamed rec same = go (judgedOf rec) refl
+  where
+    go : (o : Outcome Record) → judgedOf rec ≡ o → after o as6021 ≡ done same → refusalOf same ≡ 0
+    go (done good) f e = let j = judged-good rec good f in as-6021-good good same (ap refusalOf (sym (j .1)) ∙ j .0) e
+    go (refused n) f e = let z : _≡_ {A = ℕ} 0 1 = cc in absurd (omega arith)
+
+-- what a write makes reads back as the record that the choice asks for, whatever the room
+pub write-reads-back : (choice : Choice) (rec : Record) (room : ℕ) (bytes : List ℕ) → written choice rec room ≡ done bytes
+    → readOf (controlOf choice) bytes ≡ recordToWrite choice rec
+unfolding written laid
+write-reads-back choice rec room bytes = go (recordToWrite choice rec) refl
+  where
+    go : (o : Outcome Record) → recordToWrite choice rec ≡ o
+        → after o (λ r. unless (13 when ltb room (length (telegramOf (controlOf choice) r))) (telegramOf (controlOf choice) r)) ≡ done bytes
+        → readOf (controlOf choice) bytes ≡ recordToWrite choice rec
+    go (done same) f e =
+        let made = was-done _ (telegramOf (controlOf choice) same) bytes e .1 in
+        ap (readOf (controlOf choice)) (sym made) ∙ written-reads-back same (written-is-good choice rec same f) (controlOf choice) ∙ sym f
+    go (refused n) f e = let z : _≡_ {A = ℕ} 0 1 = cc in absurd (omega arith)
+
+-- (c) written with second advance it reads back as the next second
+pub advance-reads-back : (setting : Setting) (rec : Record) (room : ℕ) (bytes : List ℕ) → setting .advance ≡ true
+    → written (Named setting) rec room ≡ done bytes → readOf (setting .control) bytes ≡ nextSecondOf rec
+advance-reads-back setting rec room bytes on e =
+    write-reads-back (Named setting) rec room bytes e ∙ ap (λ advance. cond advance (nextSecondOf rec) (judgedOf rec)) on
+
+-- and without it as the record itself
+pub plain-reads-back : (setting : Setting) (rec : Record) (room : ℕ) (bytes : List ℕ) → setting .advance ≡ false
+    → written (Named setting) rec room ≡ done bytes → readOf (setting .control) bytes ≡ judgedOf rec
+plain-reads-back setting rec room bytes off e =
+    write-reads-back (Named setting) rec room bytes e ∙ ap (λ advance. cond advance (nextSecondOf rec) (judgedOf rec)) off
+
+-- (d) without a named setting it reads back, as a 6021, with every field that 6021 carries
+pub unnamed-reads-back : (rec : Record) (room : ℕ) (bytes : List ℕ) → written Unnamed rec room ≡ done bytes
+    → readOf false bytes ≡ after (judgedOf rec) as6021
+unnamed-reads-back rec room bytes e = write-reads-back Unnamed rec room bytes e
+
+-- (e) refused means untouched; written means that the telegram's own bytes change and no other
+pub refused-is-untouched : (choice : Choice) (rec : Record) (buffer : List ℕ) (n : ℕ) → written choice rec (length buffer) ≡ refused n
+    → laidIn (written choice rec (length buffer)) buffer ≡ buffer
+refused-is-untouched choice rec buffer n e = rw e
+
+pub written-is-laid : (choice : Choice) (rec : Record) (buffer bytes : List ℕ) → written choice rec (length buffer) ≡ done bytes
+    → laidIn (written choice rec (length buffer)) buffer ≡ bytes ++ drop (length bytes) buffer
+written-is-laid choice rec buffer bytes e = rw e
