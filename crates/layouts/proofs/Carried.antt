@@ -43,7 +43,7 @@ weekday-bound weekday e = dates.inside-both 1 weekday 7 e .1
 
 time-back : (time : Time) → times.Good time
     → _≡_ {A = Time}
-    (record { hour = 10 * (time .hour / 10 % 10) + time .hour % 10 % 10; minute = 10 * (time .minute / 10 % 10) + time .minute % 10 % 10; second = 10 * (time .second / 10 % 10) + time .second % 10 % 10 })
+    (record { hour = 10 * (time .hour / 10 % 16) + time .hour % 10 % 16; minute = 10 * (time .minute / 10 % 16) + time .minute % 10 % 16; second = 10 * (time .second / 10 % 16) + time .second % 10 % 16 })
     time
 time-back time g i =
     record {
@@ -151,8 +151,8 @@ module _ (digits : List ℕ) (h : Held digits) where
   ones : (slot : ℕ) → limit slot ≡ 9 → limit (slot + 1) ≡ 9 → number digits slot % 10 ≡ getD digits (slot + 1) 0
   ones slot e f = ones-back _ _ (small slot e) (small (slot + 1) f)
 
-  two-digits : (slot : ℕ) → number digits slot ≤ 99
-  two-digits slot = omega arith
+  two-digits : (slot : ℕ) → limit slot ≡ 9 → limit (slot + 1) ≡ 9 → number digits slot ≤ 99
+  two-digits slot e f = omega (arith, small slot e, small (slot + 1) f)
 
   code : (slot : ℕ) → limit slot ≡ 15 → getD digits slot 0 % 16 ≡ getD digits slot 0
   code slot e = let top : getD digits slot 0 ≤ 15 = rw e at (h .within slot) in omega arith
@@ -179,9 +179,9 @@ pub digits-back : (layout : Layout) (digits : List ℕ) → Held digits
 digits-back (Full layout) digits h alone =
     let s = code digits h 0 refl in
     let w = code digits h 1 refl in
-    let year-digits = year-low layout (number digits 12) (number digits 14) (two-digits digits h 14) in
+    let year-digits = year-low layout (number digits 12) (number digits 14) (two-digits digits h 14 refl refl) in
     let century-digits =
-    century-back layout (number digits 12) (number digits 14) (two-digits digits h 14) (no-century layout digits alone) in
+    century-back layout (number digits 12) (number digits 14) (two-digits digits h 14 refl refl) (no-century layout digits alone) in
     (status-code-back layout _ _ (omega arith) (omega arith) ∙ s
     then weekday-code-back layout _ _ (omega arith) (omega arith) ∙ w
     then tens digits h 2 refl refl then ones digits h 2 refl refl

@@ -21,15 +21,24 @@ use Rattle.layouts.proofs.Bits.{bit-small, bit-back, number-back, recep
 
 -- two digits and their number
 module _ (n : ℕ) (small : n ≤ 99) where
-  pub pair-back : 10 * (n / 10 % 10) + n % 10 % 10 ≡ n
-  pair-back = omega arith
+  pub pair-back : 10 * (n / 10 % 16) + n % 10 % 16 ≡ n
+  pair-back =
+      let tens : n / 10 % 16 ≡ n / 10 = omega arith in
+      let ones : n % 10 % 16 ≡ n % 10 = omega arith in
+      rw (tens, ones) (omega arith)
 
 module _ (a b : ℕ) (a-small : a ≤ 9) (b-small : b ≤ 9) where
-  pub tens-back : (10 * (a % 10) + b % 10) / 10 ≡ a
-  tens-back = omega arith
+  a-whole : a % 16 ≡ a
+  a-whole = omega arith
 
-  pub ones-back : (10 * (a % 10) + b % 10) % 10 ≡ b
-  ones-back = omega arith
+  b-whole : b % 16 ≡ b
+  b-whole = omega arith
+
+  pub tens-back : (10 * (a % 16) + b % 16) / 10 ≡ a
+  tens-back = rw (a-whole, b-whole) (omega arith)
+
+  pub ones-back : (10 * (a % 16) + b % 16) % 10 ≡ b
+  ones-back = rw (a-whole, b-whole) (omega arith)
 
 -- four bits out of the number that they make up
 record Four (n u d a c : ℕ) : Type 0 where
@@ -188,15 +197,15 @@ module _ (layout : DatedLayout) (s w : ℕ) (s-small : s ≤ 15) (w-small : w �
 module _ (layout : DatedLayout) where
   pub year-back : (year : ℕ) → 1980 ≤ year → year ≤ 2079
       → cond (hasFullYear layout)
-      (100 * (10 * (centuryOut layout year / 10 % 10) + centuryOut layout year % 10 % 10) + (10 * (year % 100 / 10 % 10) + year % 100 % 10 % 10))
-      (fullYear (10 * (year % 100 / 10 % 10) + year % 100 % 10 % 10))
+      (100 * (10 * (centuryOut layout year / 10 % 16) + centuryOut layout year % 10 % 16) + (10 * (year % 100 / 10 % 16) + year % 100 % 10 % 16))
+      (fullYear (10 * (year % 100 / 10 % 16) + year % 100 % 10 % 16))
       ≡ year
   year-back year low high = go (hasFullYear layout)
     where
-      two : 10 * (year % 100 / 10 % 10) + year % 100 % 10 % 10 ≡ year % 100
+      two : 10 * (year % 100 / 10 % 16) + year % 100 % 10 % 16 ≡ year % 100
       two = pair-back (year % 100) (omega arith)
 
-      upper : 10 * (year / 100 / 10 % 10) + year / 100 % 10 % 10 ≡ year / 100
+      upper : 10 * (year / 100 / 10 % 16) + year / 100 % 10 % 16 ≡ year / 100
       upper = pair-back (year / 100) (omega arith)
 
       pivot : (t : Bool) → ltb (year % 100) 80 ≡ t → cond t (2000 + year % 100) (1900 + year % 100) ≡ year
@@ -205,8 +214,8 @@ module _ (layout : DatedLayout) where
 
       go : (t : Bool)
           → cond t
-          (100 * (10 * (cond t (year / 100) 0 / 10 % 10) + cond t (year / 100) 0 % 10 % 10) + (10 * (year % 100 / 10 % 10) + year % 100 % 10 % 10))
-          (fullYear (10 * (year % 100 / 10 % 10) + year % 100 % 10 % 10))
+          (100 * (10 * (cond t (year / 100) 0 / 10 % 16) + cond t (year / 100) 0 % 10 % 16) + (10 * (year % 100 / 10 % 16) + year % 100 % 10 % 16))
+          (fullYear (10 * (year % 100 / 10 % 16) + year % 100 % 10 % 16))
           ≡ year
       go true = rw (two, upper) (omega arith)
       go false = rw two (pivot (ltb (year % 100) 80) refl)

@@ -2,22 +2,22 @@
 use mathlib.Core.Path.{_≡_, refl, ap, sym, _∙_}
 use mathlib.Core.Bool.{Bool, true, false, cond, not, _&&_, _||_}
 use mathlib.Core.List.{List, [], _∷_, _++_, map}
-use Prim.Native.Nat.{ℕ, _-_, _≤_, _<_}
+use Prim.Native.Nat.{ℕ, _+_, _-_, _≤_, _<_}
 use native.Mathlib.Omega.{arith}
 use lib.Dec.{leb, eqb}
-use lib.ListN.{length, take, getD, replicate, length-append, length-map}
+use lib.ListN.{length, take, drop, getD, length-map}
 use borrow.Author.Tests.{leb-true, eqb-true}
 use Rattle.refusals.specs.Refusals.{Outcome, done, refused}
-use Rattle.places.specs.Places.{Place, fixed, place, placeNumber, fixedHolds, every}
+use Rattle.places.specs.Places.{Place, fixed, place, fixedHolds, every}
 use Rattle.places.proofs.Rows.{usedIn, distinct, sound}
 use Rattle.places.proofs.Characters.{both}
 use Rattle.places.proofs.RoundTrip.{every-at}
 use Rattle.record.specs.declared.DatedLayout.the-variants.{L6021, L2000, L5500, L5050}
 use Rattle.record.specs.declared.TimeLayout.the-variants.{T6021, T5500, T5050}
 use Rattle.layouts.specs.declared.Layout.{Layout}
-use Rattle.layouts.specs.declared.rows.Row.{Row}
+use Rattle.layouts.specs.declared.rows.Span.{Span}
 use Rattle.layouts.specs.declared.Layout.the-variants.{Full, Brief}
-use Rattle.layouts.specs.Layouts.{rowOf, rowRecord, layoutOf, byTrailer}
+use Rattle.layouts.specs.Layouts.{rowOf, allRows, startOf, spanOf, layoutOf, byTrailer}
 
 -- what holds of each of the seven rows holds of the row of any layout
 of-each : (P : List Place → Type 0)
@@ -54,13 +54,26 @@ row-length layout =
     let ends = both (leb 8 (length (rowOf layout))) _ rest in
     (leb-true _ _ (ends .0), leb-true _ _ (ends .1))
 
--- the row that the code keeps is the table's, place by place
-pub row-kept : (layout : Layout)
-    → map place (take (length (rowOf layout)) (map placeNumber (rowOf layout) ++ replicate (24 - length (rowOf layout)) 0)) ≡ rowOf layout
-unfolding rowOf place
-row-kept =
-    of-each (λ row. map place (take (length row) (map placeNumber row ++ replicate (24 - length row) 0)) ≡ row)
-    refl refl refl refl refl refl refl
+-- the part of the kept rows that a layout's span marks is that layout's row
+span-marks : (layout : Layout) → map place (take (length (rowOf layout)) (drop (startOf layout) allRows)) ≡ rowOf layout
+unfolding allRows rowOf place
+span-marks (Full L6021) = refl
+span-marks (Full L2000) = refl
+span-marks (Full L5500) = refl
+span-marks (Full L5050) = refl
+span-marks (Brief T6021) = refl
+span-marks (Brief T5500) = refl
+span-marks (Brief T5050) = refl
+
+span-room : (layout : Layout) → startOf layout + length (rowOf layout) ≤ length allRows
+unfolding allRows rowOf
+span-room (Full L6021) = omega arith
+span-room (Full L2000) = omega arith
+span-room (Full L5500) = omega arith
+span-room (Full L5050) = omega arith
+span-room (Brief T6021) = omega arith
+span-room (Brief T5500) = omega arith
+span-room (Brief T5050) = omega arith
 
 -- The layout of a body, and the row of a layout, have one length.
 module _ (n : ℕ) (layout : Layout) where
@@ -115,16 +128,24 @@ found-again (Brief T5500) body same holds =
     let first : getD body 6 0 ≡ 13 = eqb-true _ 13 (trailer-byte (Brief T5500) body same holds 6 (omega arith)) in
     rw (same, first)
 
--- The row that the code keeps, as the code sees it.
-module _ (row : Row) (layout : Layout) (kept : row ≡ rowRecord (rowOf layout)) where
-  pub kept-length : row .length ≡ length (rowOf layout)
-  kept-length = ap (λ r. r .length) kept
+-- The rows and a span, as the code holds them.
+module _ (layout : Layout) (span : Span) (marks : span ≡ spanOf layout) where
+  span-starts : span .start ≡ startOf layout
+  unfolding spanOf
+  span-starts = ap (λ s. s .start) marks
 
-  pub kept-room : row .length ≤ length (row .places)
-  kept-room =
-      let room = length-append (map placeNumber (rowOf layout)) (replicate (24 - length (rowOf layout)) 0) in
-      let front = length-map (rowOf layout) placeNumber in
-      omega (arith, kept-length, ap (λ r. length (r .places)) kept)
+  pub span-ends : span .end ≡ span .start + length (rowOf layout)
+  unfolding spanOf
+  span-ends = ap (λ s. s .end) marks ∙ ap (λ n. n + length (rowOf layout)) (sym span-starts)
 
-  pub kept-row : map place (take (row .length) (row .places)) ≡ rowOf layout
-  kept-row = ap (λ r. map place (take (r .length) (r .places))) kept ∙ row-kept layout
+  module _ (rows : List ℕ) (kept : rows ≡ allRows) where
+    pub span-row : map place (take (span .end - span .start) (drop (span .start) rows)) ≡ rowOf layout
+    span-row =
+        let size : span .end - span .start ≡ length (rowOf layout) = omega (arith, span-ends) in
+        rw (size, span-starts, kept) (span-marks layout)
+
+    pub span-within : span .end ≤ length rows
+    span-within = omega (arith, span-ends, span-starts, span-room layout, ap length kept)
+
+    pub span-length : length (take (span .end - span .start) (drop (span .start) rows)) ≡ length (rowOf layout)
+    span-length = sym (length-map (take (span .end - span .start) (drop (span .start) rows)) place) ∙ ap length span-row

@@ -85,7 +85,7 @@ fullYear year = cond (ltb year 80) (2000 + year) (1900 + year)
 
 -- two decimal digits as a number, and a code of four bits
 abbrev pub number : List ℕ → ℕ → ℕ
-number digits slot = 10 * (getD digits slot 0 % 10) + getD digits (slot + 1) 0 % 10
+number digits slot = 10 * (getD digits slot 0 % 16) + getD digits (slot + 1) 0 % 16
 
 abbrev pub codeAt : List ℕ → ℕ → ℕ
 codeAt digits slot = getD digits slot 0 % 16

@@ -1,9 +1,9 @@
 -- Document 01, "The seven layouts": the table of layouts, and how a layout is found.
 use mathlib.Core.Bool.{Bool, cond, _&&_}
 use mathlib.Core.List.{List, [], _∷_, _++_, map}
-use Prim.Native.Nat.{ℕ, _-_}
+use Prim.Native.Nat.{ℕ, _+_}
 use lib.Dec.{eqb}
-use lib.ListN.{length, getD, replicate}
+use lib.ListN.{length, getD}
 use Rattle.refusals.specs.Refusals.{Outcome, done, refused}
 use Rattle.places.specs.Places.{Place, fixed, decimal, code, placeNumber}
 use Rattle.record.specs.declared.DatedLayout.the-variants.{L6021, L2000, L5500, L5050}
@@ -11,7 +11,7 @@ use Rattle.record.specs.declared.TimeLayout.the-variants.{T6021, T5500, T5050}
 use Rattle.record.specs.declared.Record.{Record}
 use Rattle.record.specs.declared.Record.the-variants.{Dated, TimeOnly}
 use Rattle.layouts.specs.declared.Layout.{Layout}
-use Rattle.layouts.specs.declared.rows.Row.{Row}
+use Rattle.layouts.specs.declared.rows.Span.{Span}
 use Rattle.layouts.specs.declared.Layout.the-variants.{Full, Brief}
 
 -- the pieces that the table's rows are made of; a digit's number is its slot
@@ -63,9 +63,30 @@ rowOf (Full L5050) =
     hh ++ space ∷ mm ++ space ∷ ss ++ space ∷ dd ++ space ∷ mo ++ space ∷ yy ++ space ∷ status ∷ weekday ∷ space ∷ cr ∷ lf ∷ []
 rowOf (Brief T5050) = hh ++ space ∷ mm ++ space ∷ ss ++ space ∷ cr ∷ lf ∷ []
 
--- a row as the code keeps it: one number a place, and behind them zeros that do not belong to it
-abbrev pub rowRecord : List Place → Row
-rowRecord row = record { places = map placeNumber row ++ replicate (24 - length row) 0; length = length row }
+-- the rows as the code keeps them: one number a place, one row behind another
+unfoldable pub allRows : List ℕ
+allRows =
+    map placeNumber
+    (rowOf (Full L6021)
+    ++ rowOf (Full L2000)
+    ++ rowOf (Full L5500)
+    ++ rowOf (Full L5050)
+    ++ rowOf (Brief T6021)
+    ++ rowOf (Brief T5500)
+    ++ rowOf (Brief T5050))
+
+-- where each begins
+abbrev pub startOf : Layout → ℕ
+startOf (Full L6021) = 0
+startOf (Full L2000) = 16
+startOf (Full L5500) = 34
+startOf (Full L5050) = 53
+startOf (Brief T6021) = 76
+startOf (Brief T5500) = 84
+startOf (Brief T5050) = 92
+
+unfoldable pub spanOf : Layout → Span
+spanOf layout = record { start = startOf layout; end = startOf layout + length (rowOf layout) }
 
 -- a record's own layout
 abbrev pub ownLayout : Record → Layout

@@ -149,11 +149,11 @@ fn full_year(year: u8) -> u16
     1900 + year as u16
 }
 
-// Two decimal digits as a number.
+// Two decimal digits as a number. What stands in a slot has four bits.
 fn pair(tens: u8, ones: u8) -> u8
-    ensures { λ r. ⌜ r ≡ 10 * (tens % 10) + ones % 10 ⌝ }
+    ensures { λ r. ⌜ r ≡ 10 * (tens % 16) + ones % 16 ⌝ }
 {
-    10 * (tens % 10) + ones % 10
+    10 * (tens % 16) + ones % 16
 }
 
 fn year_in(layout: DatedLayout, digits: [u8; 16]) -> u16

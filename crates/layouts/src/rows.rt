@@ -4,7 +4,7 @@ use record::DatedLayout;
 use record::TimeLayout;
 use refusals::LENGTH;
 ghost use mathlib.Core.Path.{_≡_};
-ghost use Rattle.layouts.specs.Layouts.{rowOf, rowRecord, layoutOf, byTrailer};
+ghost use Rattle.layouts.specs.Layouts.{allRows, spanOf, layoutOf, byTrailer};
 ghost use Rattle.layouts.specs.Answers.{layoutAnswer};
 
 const LF: u8 = b'\n';
@@ -46,10 +46,10 @@ const YEAR_10: u8 = 142;
 
 const YEAR_1: u8 = 143;
 
-// A row, and behind its length zeros that do not belong to it.
-pub struct Row {
-    pub places: [u8; 24],
-    pub length: usize,
+// Where a row stands among the rows.
+pub struct Span {
+    pub start: usize,
+    pub end: usize,
 }
 
 pub enum LayoutAnswer {
@@ -57,230 +57,143 @@ pub enum LayoutAnswer {
     Refused(u8),
 }
 
-const ROW_6021: Row = Row {
-    places: [
-        STATUS,
-        WEEKDAY,
-        HOUR_10,
-        HOUR_1,
-        MINUTE_10,
-        MINUTE_1,
-        SECOND_10,
-        SECOND_1,
-        DAY_10,
-        DAY_1,
-        MONTH_10,
-        MONTH_1,
-        YEAR_10,
-        YEAR_1,
-        LF,
-        CR,
-        0,
-        0,
-        0,
-        0,
-        0,
-        0,
-        0,
-        0,
-    ],
-    length: 16,
-};
+const ROWS: [u8; 103] = [
+    // 6021
+    STATUS,
+    WEEKDAY,
+    HOUR_10,
+    HOUR_1,
+    MINUTE_10,
+    MINUTE_1,
+    SECOND_10,
+    SECOND_1,
+    DAY_10,
+    DAY_1,
+    MONTH_10,
+    MONTH_1,
+    YEAR_10,
+    YEAR_1,
+    LF,
+    CR,
+    // 2000
+    STATUS,
+    WEEKDAY,
+    HOUR_10,
+    HOUR_1,
+    MINUTE_10,
+    MINUTE_1,
+    SECOND_10,
+    SECOND_1,
+    DAY_10,
+    DAY_1,
+    MONTH_10,
+    MONTH_1,
+    YEAR_1000,
+    YEAR_100,
+    YEAR_10,
+    YEAR_1,
+    LF,
+    CR,
+    // 5500
+    STATUS,
+    SPACE,
+    HOUR_10,
+    HOUR_1,
+    MINUTE_10,
+    MINUTE_1,
+    SECOND_10,
+    SECOND_1,
+    SPACE,
+    DAY_10,
+    DAY_1,
+    MONTH_10,
+    MONTH_1,
+    YEAR_10,
+    YEAR_1,
+    SPACE,
+    WEEKDAY,
+    CR,
+    LF,
+    // 5050
+    HOUR_10,
+    HOUR_1,
+    SPACE,
+    MINUTE_10,
+    MINUTE_1,
+    SPACE,
+    SECOND_10,
+    SECOND_1,
+    SPACE,
+    DAY_10,
+    DAY_1,
+    SPACE,
+    MONTH_10,
+    MONTH_1,
+    SPACE,
+    YEAR_10,
+    YEAR_1,
+    SPACE,
+    STATUS,
+    WEEKDAY,
+    SPACE,
+    CR,
+    LF,
+    // 6021t
+    HOUR_10,
+    HOUR_1,
+    MINUTE_10,
+    MINUTE_1,
+    SECOND_10,
+    SECOND_1,
+    LF,
+    CR,
+    // 5500t
+    HOUR_10,
+    HOUR_1,
+    MINUTE_10,
+    MINUTE_1,
+    SECOND_10,
+    SECOND_1,
+    CR,
+    LF,
+    // 5050t
+    HOUR_10,
+    HOUR_1,
+    SPACE,
+    MINUTE_10,
+    MINUTE_1,
+    SPACE,
+    SECOND_10,
+    SECOND_1,
+    SPACE,
+    CR,
+    LF,
+];
 
-const ROW_2000: Row = Row {
-    places: [
-        STATUS,
-        WEEKDAY,
-        HOUR_10,
-        HOUR_1,
-        MINUTE_10,
-        MINUTE_1,
-        SECOND_10,
-        SECOND_1,
-        DAY_10,
-        DAY_1,
-        MONTH_10,
-        MONTH_1,
-        YEAR_1000,
-        YEAR_100,
-        YEAR_10,
-        YEAR_1,
-        LF,
-        CR,
-        0,
-        0,
-        0,
-        0,
-        0,
-        0,
-    ],
-    length: 18,
-};
+// The rows of the seven layouts, one behind another.
+pub fn rows() -> [u8; 103]
+    ensures { λ r. ⌜ r ≡ allRows ⌝ }
+{
+    ROWS
+}
 
-const ROW_5500: Row = Row {
-    places: [
-        STATUS,
-        SPACE,
-        HOUR_10,
-        HOUR_1,
-        MINUTE_10,
-        MINUTE_1,
-        SECOND_10,
-        SECOND_1,
-        SPACE,
-        DAY_10,
-        DAY_1,
-        MONTH_10,
-        MONTH_1,
-        YEAR_10,
-        YEAR_1,
-        SPACE,
-        WEEKDAY,
-        CR,
-        LF,
-        0,
-        0,
-        0,
-        0,
-        0,
-    ],
-    length: 19,
-};
-
-const ROW_5050: Row = Row {
-    places: [
-        HOUR_10,
-        HOUR_1,
-        SPACE,
-        MINUTE_10,
-        MINUTE_1,
-        SPACE,
-        SECOND_10,
-        SECOND_1,
-        SPACE,
-        DAY_10,
-        DAY_1,
-        SPACE,
-        MONTH_10,
-        MONTH_1,
-        SPACE,
-        YEAR_10,
-        YEAR_1,
-        SPACE,
-        STATUS,
-        WEEKDAY,
-        SPACE,
-        CR,
-        LF,
-        0,
-    ],
-    length: 23,
-};
-
-const ROW_6021T: Row = Row {
-    places: [
-        HOUR_10,
-        HOUR_1,
-        MINUTE_10,
-        MINUTE_1,
-        SECOND_10,
-        SECOND_1,
-        LF,
-        CR,
-        0,
-        0,
-        0,
-        0,
-        0,
-        0,
-        0,
-        0,
-        0,
-        0,
-        0,
-        0,
-        0,
-        0,
-        0,
-        0,
-    ],
-    length: 8,
-};
-
-const ROW_5500T: Row = Row {
-    places: [
-        HOUR_10,
-        HOUR_1,
-        MINUTE_10,
-        MINUTE_1,
-        SECOND_10,
-        SECOND_1,
-        CR,
-        LF,
-        0,
-        0,
-        0,
-        0,
-        0,
-        0,
-        0,
-        0,
-        0,
-        0,
-        0,
-        0,
-        0,
-        0,
-        0,
-        0,
-    ],
-    length: 8,
-};
-
-const ROW_5050T: Row = Row {
-    places: [
-        HOUR_10,
-        HOUR_1,
-        SPACE,
-        MINUTE_10,
-        MINUTE_1,
-        SPACE,
-        SECOND_10,
-        SECOND_1,
-        SPACE,
-        CR,
-        LF,
-        0,
-        0,
-        0,
-        0,
-        0,
-        0,
-        0,
-        0,
-        0,
-        0,
-        0,
-        0,
-        0,
-    ],
-    length: 11,
-};
-
-pub fn row_of(layout: Layout) -> Row
-    ensures { λ r. ⌜ r ≡ rowRecord (rowOf layout) ⌝ }
+pub fn span_of(layout: Layout) -> Span
+    ensures { λ r. ⌜ r ≡ spanOf layout ⌝ }
 {
     match layout {
         Layout::Full(dated) => match dated {
-            DatedLayout::L6021 => ROW_6021,
-            DatedLayout::L2000 => ROW_2000,
-            DatedLayout::L5500 => ROW_5500,
-            DatedLayout::L5050 => ROW_5050,
+            DatedLayout::L6021 => Span { start: 0, end: 16 },
+            DatedLayout::L2000 => Span { start: 16, end: 34 },
+            DatedLayout::L5500 => Span { start: 34, end: 53 },
+            DatedLayout::L5050 => Span { start: 53, end: 76 },
         },
         Layout::Brief(brief) => match brief {
-            TimeLayout::T6021 => ROW_6021T,
-            TimeLayout::T5500 => ROW_5500T,
-            TimeLayout::T5050 => ROW_5050T,
+            TimeLayout::T6021 => Span { start: 76, end: 84 },
+            TimeLayout::T5500 => Span { start: 84, end: 92 },
+            TimeLayout::T5050 => Span {
+                start: 92,
+                end: 103,
+            },
         },
     }
 }

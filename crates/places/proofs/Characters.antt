@@ -83,10 +83,10 @@ value-of-character value h =
     (λ high. rw (high-character value high) (capital-value (value + 55) (is-capital (value + 55) (omega arith) (omega arith)) ∙ omega arith))
 
 -- and back: a character that fits is the character of its value
-pub decimal-back : (byte : ℕ) → isDecimal byte ≡ true → codeCharacter (codeValue byte % 10) ≡ byte
+pub decimal-back : (byte : ℕ) → isDecimal byte ≡ true → codeCharacter (codeValue byte % 16) ≡ byte
 decimal-back byte e =
     let bounds = decimal-bounds byte e in
-    let value : codeValue byte % 10 ≡ byte - 48 = rw (decimal-value byte e) (omega arith) in
+    let value : codeValue byte % 16 ≡ byte - 48 = rw (decimal-value byte e) (omega arith) in
     rw value (low-character (byte - 48) (omega arith) ∙ omega arith)
 
 pub code-back : (byte : ℕ) → (isDecimal byte || isCapital byte) ≡ true → codeCharacter (codeValue byte % 16) ≡ byte

@@ -45,14 +45,6 @@ module _ (row : List Place) (digits : List ℕ) where
       one (decimal slot) = refl
       one (code slot) = refl
 
-  pub decimals-rendered : every decimalHolds row (render row digits) ≡ true
-  decimals-rendered = all-hold decimalHolds digits one row
-    where
-      one : (p : Place) → decimalHolds p (byteAt digits p) ≡ true
-      one (fixed character) = refl
-      one (decimal slot) = character-decimal (getD digits slot 0 % 10) (omega arith)
-      one (code slot) = refl
-
   pub codes-rendered : every codeHolds row (render row digits) ≡ true
   codes-rendered = all-hold codeHolds digits one row
     where
@@ -63,6 +55,18 @@ module _ (row : List Place) (digits : List ℕ) where
 
 sound-parts : (p : Place) (row : List Place) → sound (p ∷ row) ≡ true → (soundPlace p ≡ true) × (sound row ≡ true)
 sound-parts p row e = both (soundPlace p) (sound row) e
+
+pub decimals-rendered : (row : List Place) (digits : List ℕ) → Held digits → sound row ≡ true → every decimalHolds row (render row digits) ≡ true
+unfolding render
+decimals-rendered [] digits held fits = refl
+decimals-rendered (fixed character ∷ row) digits held fits =
+    decimals-rendered row digits held (sound-parts (fixed character) row fits .1)
+decimals-rendered (decimal slot ∷ row) digits held fits =
+    let f = sound-parts (decimal slot) row fits in
+    let small = held .within slot in
+    let top = decimal-limit slot (f .0) .1 in
+    rw (character-decimal (getD digits slot 0 % 16) (omega arith)) (decimals-rendered row digits held (f .1))
+decimals-rendered (code slot ∷ row) digits held fits = decimals-rendered row digits held (sound-parts (code slot) row fits .1)
 
 -- a slot after a store
 stored : (base : List ℕ) (at value slot : ℕ) → at < length base
@@ -114,11 +118,11 @@ merged at slot value used digits base v = go (eqb at slot) refl used
     go false e u = refl
 
 module _ (digits : List ℕ) (held : Held digits) where
-  decimal-read : (slot : ℕ) → soundPlace (decimal slot) ≡ true → codeValue (codeCharacter (getD digits slot 0 % 10)) ≡ getD digits slot 0
+  decimal-read : (slot : ℕ) → soundPlace (decimal slot) ≡ true → codeValue (codeCharacter (getD digits slot 0 % 16)) ≡ getD digits slot 0
   decimal-read slot fits =
       let small = held .within slot in
       let top = decimal-limit slot fits .1 in
-      value-of-character (getD digits slot 0 % 10) (omega arith) ∙ omega arith
+      value-of-character (getD digits slot 0 % 16) (omega arith) ∙ omega arith
 
   code-read : (slot : ℕ) → soundPlace (code slot) ≡ true → codeValue (codeCharacter (getD digits slot 0 % 16)) ≡ getD digits slot 0
   code-read slot fits =
@@ -144,7 +148,7 @@ module _ (digits : List ℕ) (held : Held digits) where
   read-at (decimal at ∷ row) base slot fits size =
       let f = sound-parts (decimal at) row fits in
       through row base _ at _ slot (omega (arith, decimal-limit at (f .0) .0)) (decimal-read at (f .0))
-      (read-at row (set base at (codeValue (codeCharacter (getD digits at 0 % 10)))) slot (f .1) (length-set base at _ ∙ size))
+      (read-at row (set base at (codeValue (codeCharacter (getD digits at 0 % 16)))) slot (f .1) (length-set base at _ ∙ size))
   read-at (code at ∷ row) base slot fits size =
       let f = sound-parts (code at) row fits in
       through row base _ at _ slot (omega (arith, code-limit at (f .0) .0)) (code-read at (f .0))

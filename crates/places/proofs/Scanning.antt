@@ -1,57 +1,92 @@
 -- Laws of a scan: what is left to see, added to what was seen, is the whole. Assumes nothing.
 use mathlib.Core.Path.{_≡_, refl, ap, sym, _∙_}
-use mathlib.Core.Bool.{Bool, true, false, _&&_, and-true, and-false}
+use mathlib.Core.Bool.{Bool, true, false, cond, _&&_, and-true, and-false}
 use mathlib.Core.List.{List, [], _∷_, map}
-use Prim.Native.Nat.{ℕ, suc, _+_, _≤_, _<_}
+use Prim.Native.Nat.{ℕ, zero, suc, _+_, _%_, _≤_, _<_, min}
+use native.Mathlib.Omega.{arith}
+use lib.Dec.{ltb}
 use native.Mathlib.Numerals.{add-one}
-use lib.ListN.{length, drop, getD, drop-of-length-le}
-use lib.Seq.{drop-cons}
-use Rattle.places.specs.Places.{Place, place, fixedHolds, decimalHolds, codeHolds, every, gather, taken, noDigits, foundIn}
+use lib.ListN.{length, drop, getD, set, drop-of-length-le}
+use lib.Seq.{drop-cons, set-getD}
+use Rattle.places.specs.Places.{Place, fixed, decimal, code, place, fixedHolds, decimalHolds, codeHolds, every, store, keptAt, gather, faultOf, rowFault, placeFault, lower, noDigits, foundIn}
 use Rattle.places.specs.declared.Found.{Found}
 
 -- what is found in the end, from what was found so far
 abbrev pub onward : List Place → List ℕ → Found → Found
-onward row bytes so-far =
-    record {
-      digits = gather row bytes (so-far .digits);
-      fixed = every fixedHolds row bytes && so-far .fixed;
-      decimals = every decimalHolds row bytes && so-far .decimals;
-      codes = every codeHolds row bytes && so-far .codes;
-    }
+onward row bytes so-far = record { digits = gather row bytes (so-far .digits); fault = lower (rowFault row bytes) (so-far .fault) }
 
 abbrev pub fresh : Found
-fresh = record { digits = noDigits; fixed = true; decimals = true; codes = true }
+fresh = record { digits = noDigits; fault = 0 }
 
-swap : (here rest before : Bool) → ((here && rest) && before) ≡ (rest && (here && before))
-swap true rest before = refl
-swap false rest before = sym (and-false rest)
+-- `lower` is an order's minimum: 0 is its top
+lower-none : (a : ℕ) → lower a 0 ≡ a
+lower-none zero = refl
+lower-none (suc a) = refl
+
+lower-assoc : (a b c : ℕ) → lower (lower a b) c ≡ lower b (lower a c)
+lower-assoc zero b c = refl
+lower-assoc (suc a) zero c = refl
+lower-assoc (suc a) (suc b) zero = let same : min a b ≡ min b a = omega arith in ap suc same
+lower-assoc (suc a) (suc b) (suc c) = let same : min (min a b) c ≡ min b (min a c) = omega arith in ap suc same
+
+-- the fault of two parts is the lower of their faults
+two-parts : (f d c f′ d′ c′ : Bool) → faultOf (f && f′) (d && d′) (c && c′) ≡ lower (faultOf f d c) (faultOf f′ d′ c′)
+two-parts true true true f′ d′ c′ = refl
+two-parts true true false true true true = refl
+two-parts true true false true true false = refl
+two-parts true true false true false c′ = refl
+two-parts true true false false d′ c′ = refl
+two-parts true false c true true true = refl
+two-parts true false c true true false = refl
+two-parts true false c true false c′ = refl
+two-parts true false c false d′ c′ = refl
+two-parts false d c true true true = refl
+two-parts false d c true true false = refl
+two-parts false d c true false c′ = refl
+two-parts false d c false d′ c′ = refl
 
 pub onward-all : (row : List Place) (bytes : List ℕ) → onward row bytes fresh ≡ foundIn row bytes
 unfolding foundIn
-onward-all row bytes i =
-    record {
-      digits = gather row bytes noDigits;
-      fixed = and-true (every fixedHolds row bytes) i;
-      decimals = and-true (every decimalHolds row bytes) i;
-      codes = and-true (every codeHolds row bytes) i;
-    }
+onward-all row bytes i = record { digits = gather row bytes noDigits; fault = lower-none (rowFault row bytes) i }
+
+-- one place seen
+abbrev taken : Found → Place → ℕ → Found
+taken before p byte = record { digits = store p byte (before .digits); fault = lower (placeFault p byte) (before .fault) }
 
 onward-cons : (p : Place) (row : List Place) (byte : ℕ) (bytes : List ℕ) (so-far : Found)
     → onward (p ∷ row) (byte ∷ bytes) so-far ≡ onward row bytes (taken so-far p byte)
-onward-cons p row byte bytes so-far i =
-    record {
-      digits = gather (p ∷ row) (byte ∷ bytes) (so-far .digits);
-      fixed = swap (fixedHolds p byte) (every fixedHolds row bytes) (so-far .fixed) i;
-      decimals = swap (decimalHolds p byte) (every decimalHolds row bytes) (so-far .decimals) i;
-      codes = swap (codeHolds p byte) (every codeHolds row bytes) (so-far .codes) i;
-    }
+onward-cons p row byte bytes so-far =
+    let fault =
+    ap (λ n. lower n (so-far .fault))
+    (two-parts (fixedHolds p byte) (decimalHolds p byte) (codeHolds p byte) (every fixedHolds row bytes) (every decimalHolds row bytes) (every codeHolds row bytes))
+    ∙ lower-assoc (placeFault p byte) (rowFault row bytes) (so-far .fault) in
+    λ i. record { digits = gather (p ∷ row) (byte ∷ bytes) (so-far .digits); fault = fault i }
+
+-- a store at the slot that a place's number names
+store-at : (n byte : ℕ) (digits : List ℕ) → store (place n) byte digits ≡ set digits (n % 16) (keptAt (place n) byte (getD digits (n % 16) 0))
+unfolding place
+store-at n byte digits = go (ltb n 128) (ltb n 144)
+  where
+    go : (a b : Bool)
+        → store (cond a (fixed n) (cond b (decimal (n % 16)) (code (n % 16)))) byte digits
+        ≡ set digits (n % 16) (keptAt (cond a (fixed n) (cond b (decimal (n % 16)) (code (n % 16)))) byte (getD digits (n % 16) 0))
+    go true b = sym (set-getD digits (n % 16) 0)
+    go false true = refl
+    go false false = refl
 
 -- one turn
-pub onward-step : (row bytes : List ℕ) (at : ℕ) (so-far : Found) → at < length row → at < length bytes
-    → onward (map place (drop at row)) (drop at bytes) so-far
-    ≡ onward (map place (drop (at + 1) row)) (drop (at + 1) bytes) (taken so-far (place (getD row at 0)) (getD bytes at 0))
-onward-step row bytes at so-far r b =
-    rw (drop-cons row at 0 r, drop-cons bytes at 0 b, add-one) (onward-cons (place (getD row at 0)) (map place (drop (suc at) row)) (getD bytes at 0) (drop (suc at) bytes) so-far)
+pub onward-step : (row bytes : List ℕ) (at : ℕ) (so-far next : Found) → at < length row → at < length bytes
+    → next .digits ≡ set (so-far .digits) (getD row at 0 % 16) (keptAt (place (getD row at 0)) (getD bytes at 0) (getD (so-far .digits) (getD row at 0 % 16) 0))
+    → next .fault ≡ lower (placeFault (place (getD row at 0)) (getD bytes at 0)) (so-far .fault)
+    → onward (map place (drop (at + 1) row)) (drop (at + 1) bytes) next
+    ≡ onward (map place (drop at row)) (drop at bytes) so-far
+onward-step row bytes at so-far next r b d f =
+    let p = getD row at 0 in
+    let byte = getD bytes at 0 in
+    let same : next ≡ taken so-far (place p) byte =
+    λ i. record { digits = (d ∙ sym (store-at p byte (so-far .digits))) i; fault = f i } in
+    rw (drop-cons row at 0 r, drop-cons bytes at 0 b, add-one, same)
+    (sym (onward-cons (place p) (map place (drop (suc at) row)) byte (drop (suc at) bytes) so-far))
 
 -- nothing left
 no-bytes : (row : List Place) (so-far : Found) → onward row [] so-far ≡ so-far
@@ -65,3 +100,17 @@ onward-row-ends row bytes at so-far h = rw (drop-of-length-le row h)
 pub onward-bytes-end : (row bytes : List ℕ) (at : ℕ) (so-far : Found) → length bytes ≤ at
     → onward (map place (drop at row)) (drop at bytes) so-far ≡ so-far
 onward-bytes-end row bytes at so-far h = rw (drop-of-length-le bytes h) (no-bytes (map place (drop at row)) so-far)
+
+-- the lower of two numbers, by the tests that the code makes
+pub lower-here : (here before : ℕ) → before ≡ 0 → here ≡ lower here before
+lower-here here before none = rw none (sym (lower-none here))
+
+pub lower-less : (here before : ℕ) → (here ≡ 0 → ⊥) → here < before → here ≡ lower here before
+lower-less zero before some less = absurd (some refl)
+lower-less (suc here) zero some less = refl
+lower-less (suc here) (suc before) some less = let same : here ≡ min here before = omega arith in ap suc same
+
+pub lower-more : (here before : ℕ) → (here ≡ 0 → ⊥) → (before ≡ 0 → ⊥) → before ≤ here → before ≡ lower here before
+lower-more zero before some some′ more = absurd (some refl)
+lower-more (suc here) zero some some′ more = absurd (some′ refl)
+lower-more (suc here) (suc before) some some′ more = let same : before ≡ min here before = omega arith in ap suc same

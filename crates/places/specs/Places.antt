@@ -1,9 +1,10 @@
 -- Document 01, "The seven layouts" and "Refusal numbers" 3 to 5: the places of a row, and the bytes that fit them.
-use mathlib.Core.Bool.{Bool, true, cond, _&&_, _||_}
+use mathlib.Core.Bool.{Bool, true, cond, not, _&&_, _||_}
 use mathlib.Core.List.{List, [], _∷_, _++_, map}
-use Prim.Native.Nat.{ℕ, _+_, _-_, _%_}
+use Prim.Native.Nat.{ℕ, zero, suc, _+_, _-_, _%_, min}
 use lib.Dec.{leb, ltb, eqb}
 use lib.ListN.{length, take, drop, getD, set, replicate}
+use Rattle.refusals.specs.Refusals.{_when_, _else_}
 use Rattle.places.specs.declared.Found.{Found}
 
 -- what may stand at a place: one fixed character; a decimal digit; a status or weekday character. Digits have slots
@@ -57,11 +58,17 @@ every holds [] bytes = true
 every holds (p ∷ row) [] = true
 every holds (p ∷ row) (byte ∷ bytes) = holds p byte && every holds row bytes
 
--- a digit goes to its place's slot
+-- a digit goes to its place's slot; a fixed character has none
 abbrev pub store : Place → ℕ → List ℕ → List ℕ
 store (fixed character) byte digits = digits
 store (decimal slot) byte digits = set digits slot (codeValue byte)
 store (code slot) byte digits = set digits slot (codeValue byte)
+
+-- what stands in a slot once a place with that slot was seen
+abbrev pub keptAt : Place → ℕ → ℕ → ℕ
+keptAt (fixed character) byte before = before
+keptAt (decimal slot) byte before = codeValue byte
+keptAt (code slot) byte before = codeValue byte
 
 -- the digits of some bytes, each in its slot
 abbrev pub gather : List Place → List ℕ → List ℕ → List ℕ
@@ -69,28 +76,29 @@ gather [] bytes digits = digits
 gather (p ∷ row) [] digits = digits
 gather (p ∷ row) (byte ∷ bytes) digits = gather row bytes (store p byte digits)
 
--- one place seen
-abbrev pub taken : Found → Place → ℕ → Found
-taken before p byte =
-    record {
-      digits = store p byte (before .digits);
-      fixed = fixedHolds p byte && before .fixed;
-      decimals = decimalHolds p byte && before .decimals;
-      codes = codeHolds p byte && before .codes;
-    }
+-- the refusal of a row's bytes: 3 before 4 before 5, each over all of its places
+abbrev pub faultOf : Bool → Bool → Bool → ℕ
+faultOf characters decimals codes = 3 when not characters else 4 when not decimals else 5 when not codes
 
--- all of a row seen, in sixteen empty slots
+abbrev pub rowFault : List Place → List ℕ → ℕ
+rowFault row bytes = faultOf (every fixedHolds row bytes) (every decimalHolds row bytes) (every codeHolds row bytes)
+
+-- the same of one place
+abbrev pub placeFault : Place → ℕ → ℕ
+placeFault p byte = faultOf (fixedHolds p byte) (decimalHolds p byte) (codeHolds p byte)
+
+-- the lower of two refusals, where 0 is none
+abbrev pub lower : ℕ → ℕ → ℕ
+lower zero before = before
+lower (suc here) zero = suc here
+lower (suc here) (suc before) = suc (min here before)
+
+-- all of a row seen, from sixteen empty slots on
 abbrev pub noDigits : List ℕ
 noDigits = replicate 16 0
 
 unfoldable pub foundIn : List Place → List ℕ → Found
-foundIn row bytes =
-    record {
-      digits = gather row bytes noDigits;
-      fixed = every fixedHolds row bytes;
-      decimals = every decimalHolds row bytes;
-      codes = every codeHolds row bytes;
-    }
+foundIn row bytes = record { digits = gather row bytes noDigits; fault = rowFault row bytes }
 
 -- the character of a value 0 to 15
 unfoldable pub codeCharacter : ℕ → ℕ
@@ -99,7 +107,7 @@ codeCharacter value = cond (ltb value 10) (value + 48) (value + 55)
 -- the byte that a place makes of the digits
 abbrev pub byteAt : List ℕ → Place → ℕ
 byteAt digits (fixed character) = character
-byteAt digits (decimal slot) = codeCharacter (getD digits slot 0 % 10)
+byteAt digits (decimal slot) = codeCharacter (getD digits slot 0 % 16)
 byteAt digits (code slot) = codeCharacter (getD digits slot 0 % 16)
 
 unfoldable pub render : List Place → List ℕ → List ℕ

@@ -1,9 +1,13 @@
 // Bytes to digits and back, by places. A row says of each byte of a telegram what stands there: a fixed character, a
 // decimal digit, or a status or weekday character. What is done here knows no layout, and holds for any row.
+use refusals::DIGIT;
+use refusals::FIXED_CHARACTER;
+use refusals::NONE;
+use refusals::STATUS_OR_WEEKDAY;
 ghost use mathlib.Core.Path.{_≡_};
 ghost use mathlib.Core.List.{map};
 ghost use Prim.Native.Nat.{_%_};
-ghost use Rattle.places.specs.Places.{place, isDecimal, isCapital, codeValue, taken, foundIn, codeCharacter, byteAt, render, over};
+ghost use Rattle.places.specs.Places.{place, isDecimal, isCapital, codeValue, keptAt, placeFault, lower, foundIn, codeCharacter, byteAt, render, over};
 
 // A place is one number. Below this one it is the fixed character itself.
 pub const FIRST_DECIMAL: u8 = 128;
@@ -15,12 +19,8 @@ pub const FIRST_CODE: u8 = 144;
 pub struct Found {
     // The digits, each in the slot that its place names.
     pub digits: [u8; 16],
-    // Whether every fixed character is in its place.
-    pub fixed: bool,
-    // Whether every decimal place holds 0 to 9.
-    pub decimals: bool,
-    // Whether every status or weekday place holds 0 to 9 or A to F.
-    pub codes: bool,
+    // 3, 4 or 5, the lowest that some place gives, or 0.
+    pub fault: u8,
 }
 
 fn is_decimal(byte: u8) -> bool
@@ -54,53 +54,83 @@ fn code_value(byte: u8) -> u8
     0
 }
 
-// What is found with one more place seen.
-fn take_place(before: Found, at: u8, byte: u8) -> Found
-    ensures { λ r. ⌜ r ≡ taken before (place at) byte ⌝ }
+// What one place makes of its byte: what its slot then holds, and its refusal, if any.
+struct Seen {
+    value: u8,
+    fault: u8,
+}
+
+fn see(at: u8, byte: u8, before: u8) -> Seen
+    ensures { λ r. ⌜ (r .value ≡ keptAt (place at) byte before) × (r .fault ≡ placeFault (place at) byte) ⌝ }
 {
-    let mut next = before;
     if at < FIRST_DECIMAL {
         if byte == at {
-            return next;
+            return Seen {
+                value: before,
+                fault: NONE,
+            };
         }
-        next.fixed = false;
-        return next;
-    }
-    let slot = (at % 16) as usize;
-    next.digits[slot] = code_value(byte);
-    if at < FIRST_CODE {
-        if is_decimal(byte) {
-            return next;
-        }
-        next.decimals = false;
-        return next;
+        return Seen {
+            value: before,
+            fault: FIXED_CHARACTER,
+        };
     }
     if is_decimal(byte) {
-        return next;
+        return Seen {
+            value: byte - b'0',
+            fault: NONE,
+        };
+    }
+    if at < FIRST_CODE {
+        return Seen {
+            value: code_value(byte),
+            fault: DIGIT,
+        };
     }
     if is_capital(byte) {
-        return next;
+        return Seen {
+            value: byte - 55,
+            fault: NONE,
+        };
     }
-    next.codes = false;
-    next
+    Seen {
+        value: 0,
+        fault: STATUS_OR_WEEKDAY,
+    }
+}
+
+// The lower of two refusals, where 0 is none.
+fn lower(here: u8, before: u8) -> u8
+    ensures { λ r. ⌜ r ≡ lower here before ⌝ }
+{
+    if here == NONE {
+        return before;
+    }
+    if before == NONE {
+        return here;
+    }
+    if here < before {
+        return here;
+    }
+    before
 }
 
 // What a row finds in some bytes, up to the end of the shorter one.
 pub fn scan(row: &[u8], bytes: &[u8]) -> Found
     ensures { λ r. ⌜ r ≡ foundIn (map place (now (row .entry))) (now (bytes .entry)) ⌝ }
 {
-    let mut found = Found {
-        digits: [0u8; 16],
-        fixed: true,
-        decimals: true,
-        codes: true,
-    };
+    let mut digits = [0u8; 16];
+    let mut fault = NONE;
     let mut at = 0;
     while at < row.len() && at < bytes.len() {
-        found = take_place(found, row[at], bytes[at]);
+        let here = row[at];
+        let slot = (here % 16) as usize;
+        let seen = see(here, bytes[at], digits[slot]);
+        digits[slot] = seen.value;
+        fault = lower(seen.fault, fault);
         at += 1;
     }
-    found
+    Found { digits, fault }
 }
 
 // The character of a value 0 to 15.
@@ -121,11 +151,7 @@ fn byte_at(digits: [u8; 16], at: u8) -> u8
         return at;
     }
     let slot = (at % 16) as usize;
-    let digit = digits[slot];
-    if at < FIRST_CODE {
-        return code_character(digit % 10);
-    }
-    code_character(digit)
+    code_character(digits[slot])
 }
 
 // Lays the bytes of a row over the first bytes of `out`, as far as it reaches.

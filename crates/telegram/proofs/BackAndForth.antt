@@ -8,7 +8,7 @@ use lib.ListN.{length, getD}
 use borrow.Author.Tests.{not-false}
 use Rattle.refusals.specs.Refusals.{_when_, _else_, Outcome, done, refused, unless, after}
 use Rattle.refusals.proofs.Laws.{was-done, does, when-none, else-none}
-use Rattle.places.specs.Places.{fixedHolds, decimalHolds, codeHolds, every, gather, noDigits, render}
+use Rattle.places.specs.Places.{fixedHolds, decimalHolds, codeHolds, every, gather, rowFault, noDigits, render}
 use Rattle.places.proofs.Rows.{usedIn}
 use Rattle.places.proofs.RoundTrip.{Held, fixed-rendered, decimals-rendered, codes-rendered, gather-outside, reads-back, makes-again, held-gather, held-none, no-digit}
 use Rattle.record.specs.declared.Record.{Record}
@@ -43,7 +43,7 @@ module _ (rec : Record) (none : refusalOf rec ≡ 0) where
       × (every codeHolds (rowOf (ownLayout rec)) (bodyBytes rec) ≡ true)
   unfolding bodyBytes
   body-fits =
-      (fixed-rendered (rowOf (ownLayout rec)) (digitsOut rec), decimals-rendered (rowOf (ownLayout rec)) (digitsOut rec), codes-rendered (rowOf (ownLayout rec)) (digitsOut rec))
+      (fixed-rendered (rowOf (ownLayout rec)) (digitsOut rec), decimals-rendered (rowOf (ownLayout rec)) (digitsOut rec) (digits-held rec none) (row-sound (ownLayout rec)), codes-rendered (rowOf (ownLayout rec)) (digitsOut rec))
 
   body-good : bodyRefusal (ownLayout rec) (bodyBytes rec) ≡ 0
   unfolding bodyRefusal
@@ -69,10 +69,10 @@ module _ (layout : Layout) (body : List ℕ) (same : length body ≡ length (row
       × (every codeHolds (rowOf layout) body ≡ true) × (refusalOf (carried layout body) ≡ 0)
   unfolding bodyRefusal
   tests =
-      let three = else-none (3 when not (every fixedHolds (rowOf layout) body)) _ good in
+      let row = else-none (rowFault (rowOf layout) body) _ good in
+      let three = else-none (3 when not (every fixedHolds (rowOf layout) body)) _ (row .0) in
       let four = else-none (4 when not (every decimalHolds (rowOf layout) body)) _ (three .1) in
-      let five = else-none (5 when not (every codeHolds (rowOf layout) body)) _ (four .1) in
-      (not-false _ (when-none 2 _ (three .0)), not-false _ (when-none 3 _ (four .0)), not-false _ (when-none 4 _ (five .0)), five .1)
+      (not-false _ (when-none 2 _ (three .0)), not-false _ (when-none 3 _ (four .0)), not-false _ (when-none 4 _ (four .1)), row .1)
 
   digits-again : digitsOut (carried layout body) ≡ gather (rowOf layout) body noDigits
   unfolding carried

@@ -5,56 +5,40 @@ use mathlib.Core.List.{List, [], map}
 use Prim.Native.Nat.{ℕ, _-_, _≤_, _<_}
 use native.Mathlib.Omega.{arith}
 use lib.ListN.{length, take, drop, getD}
-use Rattle.refusals.specs.Refusals.{Outcome, done, refused, unless, after}
-use Rattle.refusals.proofs.Laws.{refuses, does}
-use Rattle.places.specs.Places.{place, fixedHolds, decimalHolds, codeHolds, every, gather, noDigits, foundIn}
+use Rattle.refusals.specs.Refusals.{_else_, Outcome, done, refused, unless, after}
+use Rattle.refusals.proofs.Laws.{refuses, refuses-first, does}
+use Rattle.places.specs.Places.{place, rowFault, foundIn}
 use Rattle.places.specs.declared.Found.{Found}
 use Rattle.record.specs.Rule.{refusalOf}
 use Rattle.layouts.specs.declared.Layout.{Layout}
-use Rattle.layouts.specs.declared.rows.Row.{Row}
-use Rattle.layouts.specs.Layouts.{rowOf, rowRecord, layoutOf}
+use Rattle.layouts.specs.declared.rows.Span.{Span}
+use Rattle.layouts.specs.Layouts.{rowOf, allRows, spanOf, layoutOf}
 use Rattle.layouts.specs.Coding.{recordIn}
-use Rattle.layouts.proofs.RowLaws.{kept-row}
+use Rattle.layouts.proofs.RowLaws.{span-row}
 use Rattle.telegram.specs.Reading.{bodyOf, framed, carried, bodyRefusal, readBodyAs, readOf}
 
--- what a scan by the kept row finds is what the table's row says
-pub seen : (found : Found) (row : Row) (layout : Layout) (body : List ℕ) → row ≡ rowRecord (rowOf layout)
-    → found ≡ foundIn (map place (take (row .length) (row .places))) body → found ≡ foundIn (rowOf layout) body
-seen found row layout body kept e = e ∙ ap (λ r. foundIn r body) (kept-row row layout kept)
+-- what a scan by the kept rows finds is what the table's row says
+pub seen : (found : Found) (layout : Layout) (span : Span) (rows body : List ℕ) → span ≡ spanOf layout → rows ≡ allRows
+    → found ≡ foundIn (map place (take (span .end - span .start) (drop (span .start) rows))) body → found ≡ foundIn (rowOf layout) body
+seen found layout span rows body marks kept e = e ∙ ap (λ r. foundIn r body) (span-row layout span marks rows kept)
 
 module _ (found : Found) (layout : Layout) (body : List ℕ) (e : found ≡ foundIn (rowOf layout) body) where
-  fixed-is : every fixedHolds (rowOf layout) body ≡ found .fixed
+  fault-is : found .fault ≡ rowFault (rowOf layout) body
   unfolding foundIn
-  fixed-is = sym (ap (λ f. f .fixed) e)
-
-  decimals-is : every decimalHolds (rowOf layout) body ≡ found .decimals
-  unfolding foundIn
-  decimals-is = sym (ap (λ f. f .decimals) e)
-
-  codes-is : every codeHolds (rowOf layout) body ≡ found .codes
-  unfolding foundIn
-  codes-is = sym (ap (λ f. f .codes) e)
+  fault-is = ap (λ f. f .fault) e
 
   pub carried-is : carried layout body ≡ recordIn layout (found .digits)
   unfolding foundIn carried
   carried-is = ap (recordIn layout) (sym (ap (λ f. f .digits) e))
 
-  pub ends-3 : found .fixed ≡ false → refused 3 ≡ readBodyAs layout body
-  unfolding readBodyAs bodyRefusal unless
-  ends-3 f = rw (fixed-is ∙ f)
+  pub ends-in-row : (found .fault ≡ 0 → ⊥) → refused (found .fault) ≡ readBodyAs layout body
+  unfolding readBodyAs bodyRefusal
+  ends-in-row some = refuses-first _ _ fault-is some
 
-  pub ends-4 : found .fixed ≡ true → found .decimals ≡ false → refused 4 ≡ readBodyAs layout body
-  unfolding readBodyAs bodyRefusal unless
-  ends-4 f d = rw (fixed-is ∙ f, decimals-is ∙ d)
-
-  pub ends-5 : found .fixed ≡ true → found .decimals ≡ true → found .codes ≡ false → refused 5 ≡ readBodyAs layout body
-  unfolding readBodyAs bodyRefusal unless
-  ends-5 f d c = rw (fixed-is ∙ f, decimals-is ∙ d, codes-is ∙ c)
-
-  module _ (f : found .fixed ≡ true) (d : found .decimals ≡ true) (c : found .codes ≡ true) where
-    pub record-decides : bodyRefusal layout body ≡ refusalOf (carried layout body)
+  module _ (none : found .fault ≡ 0) where
+    record-decides : bodyRefusal layout body ≡ refusalOf (carried layout body)
     unfolding bodyRefusal
-    record-decides = rw (fixed-is ∙ f, decimals-is ∙ d, codes-is ∙ c)
+    record-decides = ap (λ n. n else refusalOf (carried layout body)) (sym fault-is ∙ none)
 
     pub ends-refused : (n : ℕ) → n ≡ refusalOf (carried layout body) → (n ≡ 0 → ⊥) → refused n ≡ readBodyAs layout body
     unfolding readBodyAs
@@ -62,7 +46,7 @@ module _ (found : Found) (layout : Layout) (body : List ℕ) (e : found ≡ foun
 
     pub ends-good : refusalOf (carried layout body) ≡ 0 → done (carried layout body) ≡ readBodyAs layout body
     unfolding readBodyAs
-    ends-good none = sym (does _ (record-decides ∙ none))
+    ends-good good = sym (does _ (record-decides ∙ good))
 
 -- from a body to the telegram around it
 pub body-between : (bytes : List ℕ) → take (length bytes - 1 - 1) (drop 1 bytes) ≡ bodyOf true bytes

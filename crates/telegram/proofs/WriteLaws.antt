@@ -18,10 +18,10 @@ use Rattle.record.specs.declared.Record.{Record}
 use Rattle.record.specs.declared.Record.the-variants.{Dated, TimeOnly}
 use Rattle.record.specs.Rule.{refusalOf}
 use Rattle.record.specs.Next.{recordAfter, nextSecondOf}
-use Rattle.layouts.specs.declared.rows.Row.{Row}
-use Rattle.layouts.specs.Layouts.{rowOf, rowRecord, ownLayout}
+use Rattle.layouts.specs.declared.rows.Span.{Span}
+use Rattle.layouts.specs.Layouts.{rowOf, allRows, spanOf, ownLayout}
 use Rattle.layouts.specs.Coding.{digitsOut}
-use Rattle.layouts.proofs.RowLaws.{kept-row, kept-length, row-length}
+use Rattle.layouts.proofs.RowLaws.{span-row, span-ends, row-length}
 use Rattle.telegram.specs.Writing.{bodyBytes, telegramOf, judgedOf, as6021, recordToWrite, controlOf, laid, written, sizeOf, laidIn}
 use Rattle.telegram.specs.declared.write.Choice.{Choice}
 use Rattle.telegram.specs.declared.write.Choice.the-variants.{Named, Unnamed}
@@ -43,12 +43,19 @@ module _ (control : Bool) (rec : Record) (n : ℕ) where
   unfolding laid unless
   room h = rw (le-ltb _ _ h)
 
--- what the code's row and digits make of a buffer
-pub body-laid : (row : Row) (rec : Record) (digits last out : List ℕ) → row ≡ rowRecord (rowOf (ownLayout rec)) → digits ≡ digitsOut rec
-    → last ≡ over (render (map place (take (row .length) (row .places))) digits) out → last ≡ over (bodyBytes rec) out
-unfolding bodyBytes
-body-laid row rec digits last out kept d e =
-    e ∙ ap₂ (λ r d. over (render r d) out) (kept-row row (ownLayout rec) kept) d
+-- what the code's rows and digits make of a buffer
+module _ (rec : Record) (span : Span) (marks : span ≡ spanOf (ownLayout rec)) where
+  pub span-size : span .end - span .start ≡ length (bodyBytes rec)
+  span-size = omega (arith, span-ends (ownLayout rec) span marks, length-body rec)
+
+  pub span-small : span .end - span .start ≤ 23
+  span-small = omega (arith, span-size, length-body rec, row-length (ownLayout rec) .1)
+
+  pub body-laid : (rows digits last out : List ℕ) → rows ≡ allRows → digits ≡ digitsOut rec
+      → last ≡ over (render (map place (take (span .end - span .start) (drop (span .start) rows))) digits) out → last ≡ over (bodyBytes rec) out
+  unfolding bodyBytes
+  body-laid rows digits last out kept d e =
+      e ∙ ap₂ (λ r d. over (render r d) out) (span-row (ownLayout rec) span marks rows kept) d
 
 pub over-room : (bytes out : List ℕ) → length bytes ≤ length out → over bytes out ≡ bytes ++ drop (length bytes) out
 unfolding over
@@ -98,10 +105,6 @@ module _ (bytes out last : List ℕ) (fits : length bytes + 2 ≤ length out)
 
   pub length-framing : length (putMid 1 (length (set out 0 2) - 1) (set out 0 2) last) ≡ length out
   length-framing = ap length (part-back out last (omega arith)) ∙ omega (arith, length-behind)
-
--- a row has few places
-pub row-small : (row : Row) (rec : Record) → row ≡ rowRecord (rowOf (ownLayout rec)) → row .length ≤ 23
-row-small row rec kept = omega (arith, kept-length row (ownLayout rec) kept, row-length (ownLayout rec) .1)
 
 -- a record that is refused is refused with a number
 judged-some : (rec : Record) (k : ℕ) → judgedOf rec ≡ refused k → k ≡ 0 → ⊥

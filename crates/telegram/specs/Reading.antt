@@ -5,7 +5,7 @@ use Prim.Native.Nat.{ℕ, _-_}
 use lib.Dec.{eqb}
 use lib.ListN.{length, take, drop, getD}
 use Rattle.refusals.specs.Refusals.{_when_, _else_, Outcome, unless, after}
-use Rattle.places.specs.Places.{fixedHolds, decimalHolds, codeHolds, every, gather, noDigits}
+use Rattle.places.specs.Places.{gather, rowFault, noDigits}
 use Rattle.record.specs.declared.Record.{Record}
 use Rattle.record.specs.Rule.{refusalOf}
 use Rattle.layouts.specs.declared.Layout.{Layout}
@@ -24,13 +24,9 @@ framed bytes = eqb (getD bytes 0 0) 2 && eqb (getD bytes (length bytes - 1) 0) 3
 unfoldable pub carried : Layout → List ℕ → Record
 carried layout body = recordIn layout (gather (rowOf layout) body noDigits)
 
--- 3 fixed characters, 4 decimal places, 5 status or weekday no character for four bits, then the record's own 5 to 8
+-- 3 to 5 over all places of the row, then the record's own 5 to 8
 unfoldable pub bodyRefusal : Layout → List ℕ → ℕ
-bodyRefusal layout body =
-    3 when not (every fixedHolds (rowOf layout) body)
-    else 4 when not (every decimalHolds (rowOf layout) body)
-    else 5 when not (every codeHolds (rowOf layout) body)
-    else refusalOf (carried layout body)
+bodyRefusal layout body = rowFault (rowOf layout) body else refusalOf (carried layout body)
 
 -- the body of a telegram whose layout is known
 unfoldable pub readBodyAs : Layout → List ℕ → Outcome Record

@@ -20,18 +20,14 @@ ghost use Rattle.telegram.specs.Reading.{framed, readBodyAs, readOf};
 fn read_as(layout: Layout, body: &[u8]) -> RecordAnswer
     ensures { λ r. ⌜ recordAnswer r ≡ readBodyAs layout (now (body .entry)) ⌝ }
 {
-    let row = layouts::rows::row_of(layout);
-    let places = row.places;
-    let length = row.length;
-    let found = places::scan(&places[..length], body);
-    if !found.fixed {
-        return RecordAnswer::Refused(FIXED_CHARACTER);
-    }
-    if !found.decimals {
-        return RecordAnswer::Refused(DIGIT);
-    }
-    if !found.codes {
-        return RecordAnswer::Refused(STATUS_OR_WEEKDAY);
+    let rows = layouts::rows::rows();
+    let span = layouts::rows::span_of(layout);
+    let start = span.start;
+    let end = span.end;
+    let found = places::scan(&rows[start..end], body);
+    let fault = found.fault;
+    if fault != NONE {
+        return RecordAnswer::Refused(fault);
     }
     let digits = found.digits;
     let rec = layouts::coding::record_in(layout, digits);

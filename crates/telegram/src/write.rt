@@ -2,7 +2,7 @@
 use super::ETX;
 use super::STX;
 use layouts::Layout;
-use layouts::rows::Row;
+use layouts::rows::Span;
 use record::DatedLayout;
 use record::Record;
 use record::RecordAnswer;
@@ -13,7 +13,7 @@ ghost use mathlib.Core.Path.{_≡_};
 ghost use mathlib.Core.Bool.{true, false};
 ghost use lib.ListN.{length};
 ghost use Rattle.record.specs.Answers.{recordAnswer};
-ghost use Rattle.layouts.specs.Layouts.{rowOf, rowRecord, ownLayout};
+ghost use Rattle.layouts.specs.Layouts.{spanOf, ownLayout};
 ghost use Rattle.telegram.specs.Writing.{as6021, judgedOf, recordToWrite, controlOf, laid, written, sizeOf, laidIn};
 ghost use Rattle.telegram.specs.Answers.{writeAnswer};
 
@@ -96,24 +96,26 @@ fn control_of(choice: Choice) -> bool
     }
 }
 
-fn row_of(rec: Record) -> Row
-    ensures { λ r. ⌜ r ≡ rowRecord (rowOf (ownLayout rec)) ⌝ }
+fn span_of(rec: Record) -> Span
+    ensures { λ r. ⌜ r ≡ spanOf (ownLayout rec) ⌝ }
 {
-    layouts::rows::row_of(own_layout(rec))
+    layouts::rows::span_of(own_layout(rec))
 }
 
 // Lays a record's telegram into the buffer without STX and ETX, if there is room for it.
 fn lay_bare(rec: Record, out: &mut [u8]) -> WriteAnswer
     ensures { λ r. ⌜ (writeAnswer r ≡ sizeOf (laid false rec (length (now (out .entry))))) × (now (out .exit) ≡ laidIn (laid false rec (length (now (out .entry)))) (now (out .entry))) ⌝ }
 {
-    let row = row_of(rec);
-    let places = row.places;
-    let length = row.length;
+    let span = span_of(rec);
+    let start = span.start;
+    let end = span.end;
+    let length = end - start;
     if out.len() < length {
         return WriteAnswer::Refused(BUFFER_SHORT);
     }
     let digits = layouts::coding::digits_out(rec);
-    places::render(&places[..length], digits, out);
+    let rows = layouts::rows::rows();
+    places::render(&rows[start..end], digits, out);
     WriteAnswer::Written(length)
 }
 
@@ -121,15 +123,17 @@ fn lay_bare(rec: Record, out: &mut [u8]) -> WriteAnswer
 fn lay_framed(rec: Record, out: &mut [u8]) -> WriteAnswer
     ensures { λ r. ⌜ (writeAnswer r ≡ sizeOf (laid true rec (length (now (out .entry))))) × (now (out .exit) ≡ laidIn (laid true rec (length (now (out .entry)))) (now (out .entry))) ⌝ }
 {
-    let row = row_of(rec);
-    let places = row.places;
-    let length = row.length;
+    let span = span_of(rec);
+    let start = span.start;
+    let end = span.end;
+    let length = end - start;
     if out.len() < length + 2 {
         return WriteAnswer::Refused(BUFFER_SHORT);
     }
     let digits = layouts::coding::digits_out(rec);
+    let rows = layouts::rows::rows();
     out[0] = STX;
-    places::render(&places[..length], digits, &mut out[1..]);
+    places::render(&rows[start..end], digits, &mut out[1..]);
     out[length + 1] = ETX;
     WriteAnswer::Written(length + 2)
 }

@@ -1,34 +1,47 @@
 -- `places::scan` meets its contract. The loop's invariant: what is left to see, added to what was found, is the whole.
-use borrow.Author.Tests.{ltb-true, ltb-false}
-use mathlib.Core.Path.{_≡_, sym, _∙_, ap}
-use mathlib.Core.List.{map}
-use Prim.Native.Nat.{_-_, _≤_}
 use native.Mathlib.Omega.{arith}
 use borrow.Author.Needs.{needs}
-use borrow.Author.Tests.{ltb-true}
-use lib.ListN.{length, drop, getD}
-use Rattle.places.specs.Places.{place, foundIn}
+use mathlib.Core.Path.{_≡_, ap, sym, _∙_}
+use mathlib.Core.List.{map}
+use Prim.Native.Nat.{_-_, _%_, _≤_}
+use lib.ListN.{length, drop, getD, set}
+use borrow.Author.Tests.{ltb-true, ltb-false}
+use Rattle.places.specs.Places.{place, lower, foundIn}
+use Rattle.places.specs.declared.Found.{Found}
 use Rattle.places.proofs.Scanning.{onward, onward-all, onward-step, onward-row-ends, onward-bytes-end}
 use Rattle.places.proofs.scan.Statement.{statement}
 use Rattle.places.proofs.scan.Tie as tie
 
 abbrev Inv-loop : tie.InvT-loop
-Inv-loop row bytes found₀ at₀ found at = onward (map place (drop at row)) (drop at bytes) found ≡ foundIn (map place row) bytes
+Inv-loop row bytes digits₀ fault₀ at₀ digits fault at =
+    onward (map place (drop at row)) (drop at bytes) (record { digits = digits; fault = fault }) ≡ foundIn (map place row) bytes
 
 abbrev μ-loop : tie.MeasureT-loop
-μ-loop row bytes found₀ at₀ found at = length row - at
+μ-loop row bytes digits₀ fault₀ at₀ digits fault at = length row - at
 
 loop-holds : tie.Need-loop-holds Inv-loop μ-loop
 loop-holds c = onward-all _ _
 
-shared-slice-read-take-place : tie.Need-shared-slice-read-take-place Inv-loop μ-loop
-shared-slice-read-take-place c = omega arith
+shared-slice-read-here : tie.Need-shared-slice-read-here Inv-loop μ-loop
+shared-slice-read-here c = omega arith
 
-shared-slice-read-take-place-2 : tie.Need-shared-slice-read-take-place-2 Inv-loop μ-loop
-shared-slice-read-take-place-2 c = ltb-true _ _ (c .before .before .if1 .taken)
+cast-slot : tie.Need-cast-slot Inv-loop μ-loop
+cast-slot c = omega arith
 
-take-place-requires : tie.Need-take-place-requires Inv-loop μ-loop
-take-place-requires c κs = search needs
+shared-slice-read-see : tie.Need-shared-slice-read-see Inv-loop μ-loop
+shared-slice-read-see c = ltb-true _ _ (c .before .before .if1 .taken)
+
+array-read-see : tie.Need-array-read-see Inv-loop μ-loop
+array-read-see c = omega arith
+
+see-requires : tie.Need-see-requires Inv-loop μ-loop
+see-requires c κs = search needs
+
+array-write-digits : tie.Need-array-write-digits Inv-loop μ-loop
+array-write-digits c = omega arith
+
+lower-requires : tie.Need-lower-requires Inv-loop μ-loop
+lower-requires c κs = search needs
 
 add-at : tie.Need-add-at Inv-loop μ-loop
 add-at c = omega arith
@@ -38,9 +51,13 @@ loop-less c = omega arith
 
 loop-again : tie.Need-loop-again Inv-loop μ-loop
 loop-again c =
-    let step =
-    onward-step (c .before .before .before .before .before .before .before .before .args .row .now) (c .before .before .before .before .before .before .before .before .args .bytes .now) (c .before .before .before .before .before .loop .at) (c .before .before .before .before .before .loop .found) (c .before .before .before .before .loop-test .taken) (ltb-true _ _ (c .before .before .before .if1 .taken)) in
-    rw (c .take-place .ensures) (sym step ∙ c .before .before .before .before .before .loop .inv)
+    let l = c .before .before .before .before .before .before .loop in
+    let row = c .before .before .before .before .before .before .before .before .before .args .row .now in
+    let so-far : Found = record { digits = l .digits; fault = l .fault } in
+    onward-step row (c .before .before .before .before .before .before .before .before .before .args .bytes .now) (l .at) so-far _ (c .before .before .before .before .before .loop-test .taken) (ltb-true _ _ (c .before .before .before .before .if1 .taken))
+    (ap (set (l .digits) (getD row (l .at) 0 % 16)) (c .before .see .ensures .0))
+    (c .lower .ensures ∙ ap (λ f. lower f (l .fault)) (c .before .see .ensures .1))
+    ∙ l .inv
 
 returns : tie.Need-returns Inv-loop μ-loop
 returns c = sym (onward-bytes-end (c .before .before .before .before .before .args .row .now) (c .before .before .before .before .before .args .bytes .now) (c .before .before .loop .at) _ (ltb-false _ _ (c .if1 .left))) ∙ c .before .before .loop .inv
@@ -55,9 +72,13 @@ scan-spec =
     Inv-loop
     μ-loop
     loop-holds
-    shared-slice-read-take-place
-    shared-slice-read-take-place-2
-    take-place-requires
+    shared-slice-read-here
+    cast-slot
+    shared-slice-read-see
+    array-read-see
+    see-requires
+    array-write-digits
+    lower-requires
     add-at
     loop-less
     loop-again

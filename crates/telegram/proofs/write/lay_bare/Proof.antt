@@ -2,32 +2,40 @@
 use mathlib.Core.Path.{refl, sym, ap, _∙_}
 use mathlib.Core.Bool.{false}
 use native.Mathlib.Omega.{arith}
-use lib.Seq.{length-take-le}
 use lib.ListN.{length}
-use Rattle.layouts.proofs.RowLaws.{kept-room, kept-length}
 use Rattle.refusals.specs.Refusals.{done}
-use Rattle.telegram.proofs.WriteLaws.{length-body, no-room, room, body-laid, over-room}
+use Rattle.layouts.proofs.RowLaws.{span-ends, span-within}
+use Rattle.telegram.proofs.WriteLaws.{span-size, no-room, room, body-laid, over-room}
 use borrow.Author.Needs.{needs}
 use Rattle.telegram.proofs.write.lay_bare.Statement.{statement}
 use Rattle.telegram.proofs.write.lay_bare.Tie as tie
 
-row-of-requires : tie.Need-row-of-requires
-row-of-requires c κs = search needs
+span-of-requires : tie.Need-span-of-requires
+span-of-requires c κs = search needs
+
+sub-length : tie.Need-sub-length
+sub-length c = omega (arith, span-ends _ _ (c .span-of .ensures))
 
 returns : tie.Need-returns
 returns c =
-    let rec = c .before .before .before .before .args .rec in
-    let short = no-room false rec (length (c .before .before .before .before .args .out .now)) (omega (arith, c .if1 .taken, kept-length _ _ (c .before .before .row-of .ensures), length-body rec)) in
+    let rec = c .before .before .before .args .rec in
+    let short = no-room false rec (length (c .before .before .before .args .out .now)) (omega (arith, c .if1 .taken, span-size rec _ (c .before .span-of .ensures))) in
     rw short (refl, refl)
 
 digits-out-requires : tie.Need-digits-out-requires
 digits-out-requires c κs = search needs
 
-array-share-prefix-places : tie.Need-array-share-prefix-places
-array-share-prefix-places c = kept-room _ _ (c .before .before .before .row-of .ensures)
+rows-requires : tie.Need-rows-requires
+rows-requires c κs = search needs
 
-slice-aggregate-render : tie.Need-slice-aggregate-render
-slice-aggregate-render c = sym (length-take-le _ (c .before .before .before .before .row-of .result .places) (kept-room _ _ (c .before .before .before .before .row-of .ensures)))
+sub-render : tie.Need-sub-render
+sub-render c = omega (arith, span-ends _ _ (c .before .before .before .span-of .ensures))
+
+part-render-start : tie.Need-part-render-start
+part-render-start c = omega (arith, span-ends _ _ (c .before .before .before .before .span-of .ensures))
+
+part-render-end : tie.Need-part-render-end
+part-render-end c = span-within _ _ (c .before .before .before .before .span-of .ensures) _ (c .before .rows .ensures)
 
 render-requires : tie.Need-render-requires
 render-requires c κs = search needs
@@ -37,22 +45,25 @@ same-length c = search needs
 
 returns-2 : tie.Need-returns-2
 returns-2 c =
-    let rec = c .before .before .before .before .before .before .before .before .before .before .args .rec in
-    let out = c .before .before .before .before .before .before .before .before .before .before .args .out .now in
-    let n = kept-length _ _ (c .before .before .before .before .before .before .before .before .row-of .ensures) ∙ sym (length-body rec) in
-    let fits = room false rec (length out) (omega (arith, c .before .before .before .before .before .before .if1 .left, n)) in
-    let made = body-laid _ rec _ _ out (c .before .before .before .before .before .before .before .before .row-of .ensures) (c .before .before .before .before .before .digits-out .ensures) (c .before .before .render .ensures) in
-    rw fits (ap done n, made ∙ over-room _ out (omega (arith, c .before .before .before .before .before .before .if1 .left, n)))
+    let rec = c .before .before .before .before .before .before .before .before .before .before .before .args .rec in
+    let out = c .before .before .before .before .before .before .before .before .before .before .before .args .out .now in
+    let n = span-size rec _ (c .before .before .before .before .before .before .before .before .before .span-of .ensures) in
+    let fits = room false rec (length out) (omega (arith, c .before .before .before .before .before .before .before .before .if1 .left, n)) in
+    let made = body-laid rec _ (c .before .before .before .before .before .before .before .before .before .span-of .ensures) _ _ _ out (c .before .before .before .before .before .before .rows .ensures) (c .before .before .before .before .before .before .before .digits-out .ensures) (c .before .before .render .ensures) in
+    rw fits (ap done n, made ∙ over-room _ out (omega (arith, c .before .before .before .before .before .before .before .before .if1 .left, n)))
 
 pub lay-bare-spec : {M : Type 1} → statement M
 lay-bare-spec =
     tie.close
     (tie.spec
-    row-of-requires
+    span-of-requires
+    sub-length
     returns
     digits-out-requires
-    array-share-prefix-places
-    slice-aggregate-render
+    rows-requires
+    sub-render
+    part-render-start
+    part-render-end
     render-requires
     same-length
     returns-2)

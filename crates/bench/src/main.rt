@@ -1,0 +1,103 @@
+// Work to be measured, chosen by the first byte of standard input: the rest is 6021 telegrams of 18 bytes each.
+// r reads each of them; w writes the record of each anew. It prints how often that went well.
+use calendar::date::Date;
+use calendar::time::Time;
+use libc::STDIN_FILENO;
+use libc::STDOUT_FILENO;
+use record::DatedLayout;
+use record::Reception;
+use record::Record;
+use record::RecordAnswer;
+use record::Status;
+use record::TimeLayout;
+use telegram::write::Choice;
+use telegram::write::Setting;
+use telegram::write::WriteAnswer;
+
+fn number(tens: u8, ones: u8) -> u8 {
+    10 * (tens % 16) + ones % 16
+}
+
+// The record of a telegram of 1980 to 1999 in standard time, taken without judging it.
+fn made(bytes: &[u8]) -> Record {
+    if bytes.len() < 18 {
+        return Record::TimeOnly(
+            TimeLayout::T6021,
+            Time {
+                hour: 0,
+                minute: 0,
+                second: 0,
+            },
+        );
+    }
+    Record::Dated(
+        DatedLayout::L6021,
+        Status {
+            reception: Reception::Radio,
+            daylight: false,
+            utc: false,
+            announced: false,
+        },
+        bytes[2] % 8,
+        Date {
+            year: 1900 + number(bytes[13], bytes[14]) as u16,
+            month: number(bytes[11], bytes[12]),
+            day: number(bytes[9], bytes[10]),
+        },
+        Time {
+            hour: number(bytes[3], bytes[4]),
+            minute: number(bytes[5], bytes[6]),
+            second: number(bytes[7], bytes[8]),
+        },
+    )
+}
+
+fn writes(rec: Record) -> bool {
+    let mut out = [0u8; 32];
+    let setting = Setting {
+        control: true,
+        advance: false,
+    };
+    match telegram::write::write(rec, Choice::Named(setting), &mut out) {
+        WriteAnswer::Written(_) => out[0] == 2,
+        WriteAnswer::Refused(_) => false,
+    }
+}
+
+fn reads(bytes: &[u8]) -> bool {
+    match telegram::read::read(bytes, true) {
+        RecordAnswer::Good(_) => true,
+        RecordAnswer::Refused(_) => false,
+    }
+}
+
+fn goes_well(mode: u8, bytes: &[u8]) -> bool {
+    if mode == b'r' {
+        return reads(bytes);
+    }
+    writes(made(bytes))
+}
+
+fn each(mode: u8, data: &[u8]) -> u64 {
+    let mut good: u64 = 0;
+    let mut at: usize = 0;
+    while at < data.len() && 18 <= data.len() - at {
+        let end = at + 18;
+        if goes_well(mode, &data[at..end]) {
+            good += 1;
+        }
+        at = end;
+    }
+    good
+}
+
+fn main() {
+    let mut input = io::large_buffer();
+    let length = io::read_full(STDIN_FILENO, &mut input);
+    if length == 0 {
+        return;
+    }
+    let good = each(input[0], &input[1..length]);
+    io::print_decimal(STDOUT_FILENO, good);
+    io::write_all(STDOUT_FILENO, b"\n");
+}
