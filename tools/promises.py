@@ -26,7 +26,7 @@ def functions(source):
     lines = source.read_text(encoding="utf-8").split("\n")
     holder = ""
     for number, line in enumerate(lines, 1):
-        if not line.startswith((" ", "\t", "}")):
+        if line and not line.startswith((" ", "\t", "}")):
             made = IMPL.match(line)
             holder = made.group(1) + "::" if made else ""
         found = HEAD.match(line)

@@ -16,7 +16,7 @@ use Rattle.record.specs.declared.DatedLayout.the-variants.{L6021, L2000, L5500,
 use Rattle.record.specs.declared.Reception.the-variants.{Crystal, Radio}
 use Rattle.record.specs.declared.Status.{Status}
 use Rattle.record.specs.Rule.{crystalOrRadio, tableCanSay, tableOf6021, statusAllowed}
-use Rattle.layouts.specs.Coding.{b0, b1, b2, b3, bit, receptionAt, receptionNumber, isCrystal, statusIn6021, statusIn5500, statusOut6021, statusOut5500, statusIn, statusOut, weekdayIn, weekdayOut, fullYear, hasFullYear, yearIn, centuryOut, number}
+use Rattle.layouts.specs.Coding.{b0, b1, b2, b3, bit, receptionAt, receptionNumber, isCrystal, statusIn6021, statusIn5500, statusOut6021, statusOut5500, statusIn, statusOut, weekdayIn, weekdayOut, turningYear, fullYear, hasFullYear, yearIn, centuryOut, number}
 use Rattle.layouts.proofs.Bits.{bit-small, bit-back, number-back, reception-small, reception-back, reception-number-back, crystal-back, crystal-bit-back}
 
 -- two digits and their number
@@ -208,9 +208,9 @@ module _ (layout : DatedLayout) where
       upper : 10 * (year / 100 / 10 % 16) + year / 100 % 10 % 16 ≡ year / 100
       upper = pair-back (year / 100) (omega arith)
 
-      pivot : (t : Bool) → ltb (year % 100) 80 ≡ t → cond t (2000 + year % 100) (1900 + year % 100) ≡ year
-      pivot true e = omega (arith, ltb-true (year % 100) 80 e)
-      pivot false e = omega (arith, ltb-false (year % 100) 80 e)
+      pivot : (t : Bool) → ltb (year % 100) turningYear ≡ t → cond t (2000 + year % 100) (1900 + year % 100) ≡ year
+      pivot true e = omega (arith, ltb-true (year % 100) turningYear e)
+      pivot false e = omega (arith, ltb-false (year % 100) turningYear e)
 
       go : (t : Bool)
           → cond t
@@ -218,7 +218,7 @@ module _ (layout : DatedLayout) where
           (fullYear (10 * (year % 100 / 10 % 16) + year % 100 % 10 % 16))
           ≡ year
       go true = rw (two, upper) (omega arith)
-      go false = rw two (pivot (ltb (year % 100) 80) refl)
+      go false = rw two (pivot (ltb (year % 100) turningYear) refl)
 
   -- the low two digits of a year, and its century where the layout has one
   pub year-low : (century low : ℕ) → low ≤ 99 → cond (hasFullYear layout) (100 * century + low) (fullYear low) % 100 ≡ low
@@ -230,7 +230,7 @@ module _ (layout : DatedLayout) where
 
       go : (t : Bool) → cond t (100 * century + low) (fullYear low) % 100 ≡ low
       go true = omega arith
-      go false = pivot (ltb low 80)
+      go false = pivot (ltb low turningYear)
 
   pub century-back : (century low : ℕ) → low ≤ 99 → (hasFullYear layout ≡ false → century ≡ 0)
       → centuryOut layout (cond (hasFullYear layout) (100 * century + low) (fullYear low)) ≡ century

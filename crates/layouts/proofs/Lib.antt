@@ -2,3 +2,4 @@ pub mod Bits
 pub mod RowLaws
 pub mod CodingLaws
 pub mod Carried
+pub mod Whole

@@ -80,8 +80,11 @@ abbrev pub weekdayOut : DatedLayout → Status → ℕ → ℕ
 weekdayOut layout status weekday = cond (tableOf6021 layout) (weekday % 8 + 8 * bit (status .utc)) weekday
 
 -- "a two-digit year 80 to 99 is 1980 to 1999, and 00 to 79 is 2000 to 2079"
+abbrev pub turningYear : ℕ
+turningYear = 80
+
 abbrev pub fullYear : ℕ → ℕ
-fullYear year = cond (ltb year 80) (2000 + year) (1900 + year)
+fullYear year = cond (ltb year turningYear) (2000 + year) (1900 + year)
 
 -- two decimal digits as a number, and a code of four bits
 abbrev pub number : List ℕ → ℕ → ℕ

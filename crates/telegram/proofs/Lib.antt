@@ -4,3 +4,4 @@ pub mod SeveralLaws
 pub mod Frames
 pub mod BackAndForth
 pub mod Demand
+pub mod Whole

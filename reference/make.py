@@ -1,0 +1,39 @@
+"""Makes the input and the expected output of the repository's programs.
+
+Run with --write it writes them; with --check it fails where a committed file is not what it makes.
+"""
+
+import pathlib
+import sys
+
+sys.dont_write_bytecode = True  # leaves no files behind
+
+import cases
+
+CRATES = pathlib.Path(__file__).resolve().parent.parent / "crates"
+
+
+def made():
+    """Each file below crates/ with its content."""
+    every = list(cases.all_cases())
+    yield "cases/stdin", b"".join(given for given, _ in every)
+    yield "cases/stdout", b"".join(expected for _, expected in every)
+
+
+def main(mode):
+    wrong = []
+    for name, content in made():
+        path = CRATES / name
+        if mode == "--write":
+            path.write_bytes(content)
+        elif not path.exists() or path.read_bytes() != content:
+            wrong.append(name)
+    for name in wrong:
+        print("crates/" + name, "is not what the second implementation makes")
+    return 1 if wrong else 0
+
+
+if __name__ == "__main__":
+    if sys.argv[1:] not in (["--write"], ["--check"]):
+        sys.exit("usage: make.py --write | --check")
+    sys.exit(main(sys.argv[1]))
