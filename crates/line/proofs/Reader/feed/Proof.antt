@@ -1,0 +1,44 @@
+use native.Mathlib.Omega.{arith}
+use mathlib.Core.Path.{_≡_, refl, ap, sym, _∙_}
+use mathlib.Core.List.{[], _∷_}
+use lib.ListN.{length, length-map}
+use borrow.Author.Tests.{not-true, not-false}
+use Rattle.line.specs.Line.{wellFormed, feedReader}
+use Rattle.line.proofs.ReaderLaws.{feed-refused, outside-back}
+use borrow.Author.Needs.{needs}
+use Rattle.line.proofs.Reader.feed.Statement.{statement}
+use Rattle.line.proofs.Reader.feed.Tie as tie
+
+is-well-formed-requires : tie.Need-is-well-formed-requires
+is-well-formed-requires c κs = search needs
+
+returns : tie.Need-returns
+returns c = sym (feed-refused (c .before .before .before .args .self) (c .before .before .before .args .piece .now) (sym (c .before .is-well-formed .ensures) ∙ not-true _ (c .if1 .taken)))
+
+feed-outside-requires : tie.Need-feed-outside-requires
+feed-outside-requires c κs = search needs
+
+returns-2 : tie.Need-returns-2
+returns-2 c =
+    let self = c .before .before .before .before .before .before .args .self in
+    let good = sym (c .before .before .before .before .is-well-formed .ensures) ∙ not-false _ (c .before .before .before .if1 .left) in
+    let size : length (self .held) ≡ 24 = sym (length-map (self .held) (λ x. x)) ∙ c .before .before .before .before .before .before .good .0 .1 .1 .0 .1 .0 .1 in
+    let back = outside-back self good size (omega (arith, c .before .before .before .before .before .before .good)) (omega (arith, c .before .before .before .before .before .before .good)) (c .before .if2 .taken) in
+    c .feed-outside .ensures ∙ ap (λ reader. feedReader reader (c .before .before .before .before .before .before .args .piece .now)) back
+
+feed-inside-requires : tie.Need-feed-inside-requires
+feed-inside-requires c κs = (sym (c .before .before .before .is-well-formed .ensures) ∙ not-false _ (c .before .before .if1 .left), omega arith)
+
+returns-3 : tie.Need-returns-3
+returns-3 c = search needs
+
+pub feed-spec : {M : Type 1} → statement M
+feed-spec =
+    tie.close
+    (tie.spec
+    is-well-formed-requires
+    returns
+    feed-outside-requires
+    returns-2
+    feed-inside-requires
+    returns-3)

@@ -1,0 +1,72 @@
+-- Laws of runs, one byte after the other. Assumes nothing.
+use mathlib.Core.Path.{_≡_, refl, ap, sym, _∙_}
+use mathlib.Core.Bool.{Bool, true, false, cond}
+use mathlib.Core.List.{List, [], _∷_}
+use Prim.Native.Nat.{ℕ, zero, suc, _+_, _-_, _≤_, _<_}
+use native.Mathlib.Numerals.{add-one}
+use native.Mathlib.Omega.{arith}
+use lib.Dec.{eqb}
+use lib.ListN.{length, take, drop, getD, drop-of-length-le}
+use lib.Seq.{drop-cons, take-nil}
+use borrow.Author.Tests.{eqb-true}
+use Rattle.line.specs.Line.{isPlain}
+use Rattle.line.specs.Runs.{strayRun, plainRun, roomyRun}
+
+module _ (piece : List ℕ) (at : ℕ) where
+  pub stray-end : length piece ≤ at → strayRun (drop at piece) ≡ 0
+  stray-end h = rw (drop-of-length-le piece h)
+
+  pub stray-byte : at < length piece → strayRun (drop at piece) ≡ cond (eqb (getD piece at 0) 2) 0 (suc (strayRun (drop (at + 1) piece)))
+  stray-byte h = rw (drop-cons piece at 0 h, add-one)
+
+  pub run-end : (end : ℕ) → length piece ≤ at → roomyRun end (drop at piece) ≡ 0
+  run-end end h = rw (drop-of-length-le piece h) (ap plainRun (take-nil (24 - end)))
+
+  pub run-byte : (end : ℕ) → end < 24 → at < length piece
+      → roomyRun end (drop at piece) ≡ cond (isPlain (getD piece at 0)) (suc (roomyRun (end + 1) (drop (at + 1) piece))) 0
+  run-byte end room h =
+      let one-less : 24 - end ≡ suc (24 - (end + 1)) = omega arith in
+      rw (drop-cons piece at 0 h, add-one at) (ap (λ n. plainRun (take n (getD piece at 0 ∷ drop (suc at) piece))) one-less)
+
+pub run-full : (piece : List ℕ) (end : ℕ) → 24 ≤ end → roomyRun end piece ≡ 0
+run-full piece end full =
+    let none : 24 - end ≡ 0 = omega arith in
+    ap (λ n. plainRun (take n piece)) none
+
+-- a run is no longer than its room and its piece
+abbrev pub Within : ℕ → ℕ → List ℕ → Type 0
+Within n room piece = (n ≤ room) × (n ≤ length piece)
+
+within-on : (t : Bool) (n room byte : ℕ) (piece : List ℕ) → Within n room piece → Within (cond t (suc n) 0) (suc room) (byte ∷ piece)
+within-on true n room byte piece (r, p) = (omega arith, omega arith)
+within-on false n room byte piece h = (omega arith, omega arith)
+
+pub run-within : (room : ℕ) (piece : List ℕ) → Within (plainRun (take room piece)) room piece
+run-within zero piece = (omega arith, omega arith)
+run-within (suc room) [] = (omega arith, omega arith)
+run-within (suc room) (byte ∷ piece) = within-on (isPlain byte) (plainRun (take room piece)) room byte piece (run-within room piece)
+
+-- it ends for want of room, or of bytes, or at a byte that is not plain
+abbrev pub Ends : ℕ → ℕ → List ℕ → Type 0
+Ends n room piece = n < room → n < length piece → isPlain (getD piece n 0) ≡ false
+
+ends-on : (t : Bool) (n room byte : ℕ) (piece : List ℕ) → isPlain byte ≡ t → Ends n room piece → Ends (cond t (suc n) 0) (suc room) (byte ∷ piece)
+ends-on true n room byte piece e h r p = h (omega arith) (omega arith)
+ends-on false n room byte piece e h r p = e
+
+pub run-ends : (room : ℕ) (piece : List ℕ) → Ends (plainRun (take room piece)) room piece
+run-ends zero piece = λ r p. absurd (omega arith)
+run-ends (suc room) [] = λ r p. absurd (omega arith)
+run-ends (suc room) (byte ∷ piece) = ends-on (isPlain byte) (plainRun (take room piece)) room byte piece refl (run-ends room piece)
+
+-- a run of stray bytes ends with the piece or at an STX
+abbrev pub StrayEnds : ℕ → List ℕ → Type 0
+StrayEnds n piece = (n ≤ length piece) × (n < length piece → getD piece n 0 ≡ 2)
+
+stray-on : (t : Bool) (n byte : ℕ) (piece : List ℕ) → eqb byte 2 ≡ t → StrayEnds n piece → StrayEnds (cond t 0 (suc n)) (byte ∷ piece)
+stray-on true n byte piece e h = (omega arith, λ more. eqb-true byte 2 e)
+stray-on false n byte piece e h = (omega (arith, h .0), λ more. h .1 (omega arith))
+
+pub stray-ends : (piece : List ℕ) → StrayEnds (strayRun piece) piece
+stray-ends [] = (omega arith, λ more. absurd (omega arith))
+stray-ends (byte ∷ piece) = stray-on (eqb byte 2) (strayRun piece) byte piece refl (stray-ends piece)

@@ -1,0 +1,91 @@
+-- `line::judge::judge` meets its contract. The loop's invariant: the bytes copied so far.
+use native.Mathlib.Omega.{arith}
+use borrow.Author.Needs.{needs}
+use mathlib.Core.Path.{_≡_, refl, ap, sym, _∙_}
+use mathlib.Core.Bool.{true}
+use Prim.Native.Nat.{_+_, _-_, _≤_}
+use lib.ListN.{length, length-set, take, drop, getD, set}
+use Rattle.telegram.specs.Reading.{readOf}
+use Rattle.line.proofs.Copies.{copy-step, closed}
+use Rattle.line.proofs.judge.judge.Statement.{statement}
+use Rattle.line.proofs.judge.judge.Tie as tie
+
+abbrev Inv-loop : tie.InvT-loop
+Inv-loop len held size whole₀ at₀ whole at = (at ≤ size) × (length whole ≡ 25) × (take at whole ≡ take at held)
+
+abbrev μ-loop : tie.MeasureT-loop
+μ-loop len held size whole₀ at₀ whole at = size - at
+
+capped-requires : tie.Need-capped-requires Inv-loop μ-loop
+capped-requires c κs = search needs
+
+loop-holds : tie.Need-loop-holds Inv-loop μ-loop
+loop-holds c = (omega arith, refl, refl)
+
+array-read-whole : tie.Need-array-read-whole Inv-loop μ-loop
+array-read-whole c = omega (arith, c .before .before .capped .ensures)
+
+array-write-whole : tie.Need-array-write-whole Inv-loop μ-loop
+array-write-whole c = omega (arith, c .before .before .capped .ensures)
+
+add-at : tie.Need-add-at Inv-loop μ-loop
+add-at c = omega arith
+
+loop-less : tie.Need-loop-less Inv-loop μ-loop
+loop-less c = omega arith
+
+loop-again : tie.Need-loop-again Inv-loop μ-loop
+loop-again c =
+    let held = c .before .before .before .args .t1 in
+    let l = c .before .loop in
+    let size : length held ≡ 24 = omega (arith, c .before .before .before .good) in (
+      omega arith,
+      length-set (l .whole) (l .at) (getD held (l .at) 0) ∙ l .inv .1,
+      copy-step held (l .whole) (l .at) (omega (arith, c .before .before .capped .ensures)) (omega (arith, c .before .before .capped .ensures, l .inv .1)) (l .inv .2),
+    )
+
+array-write-whole-2 : tie.Need-array-write-whole-2 Inv-loop μ-loop
+array-write-whole-2 c = omega (arith, c .before .before .capped .ensures)
+
+add-end : tie.Need-add-end Inv-loop μ-loop
+add-end c = omega arith
+
+sub-read : tie.Need-sub-read Inv-loop μ-loop
+sub-read c = omega arith
+
+part-read-start : tie.Need-part-read-start Inv-loop μ-loop
+part-read-start c = search needs
+
+part-read-end : tie.Need-part-read-end Inv-loop μ-loop
+part-read-end c = omega (arith, length-set (c .before .before .loop .whole) (c .before .before .loop .at) 3, c .before .before .before .capped .ensures, c .before .before .loop .inv .1)
+
+read-requires : tie.Need-read-requires Inv-loop μ-loop
+read-requires c κs = search needs
+
+returns : tie.Need-returns Inv-loop μ-loop
+returns c =
+    let held = c .before .before .before .before .before .before .args .t1 in
+    let l = c .before .before .before .before .loop in
+    let size : length held ≡ 24 = omega (arith, c .before .before .before .before .before .before .good) in
+    c .read .ensures ∙ ap (readOf true) (closed held (l .whole) (c .before .before .before .before .before .before .args .len) (l .at) (l .at + 1 - 0) 3 (omega arith) (omega (arith, c .before .before .before .before .before .capped .ensures)) (omega (arith, c .before .before .before .before .before .capped .ensures, l .inv .1)) (l .inv .2))
+
+pub judge-spec : {M : Type 1} → statement M
+judge-spec =
+    tie.close
+    (tie.spec
+    Inv-loop
+    μ-loop
+    capped-requires
+    loop-holds
+    array-read-whole
+    array-write-whole
+    add-at
+    loop-less
+    loop-again
+    array-write-whole-2
+    add-end
+    sub-read
+    part-read-start
+    part-read-end
+    read-requires
+    returns)

@@ -1,0 +1,148 @@
+-- Document 01, "The line, byte by byte".
+use mathlib.Core.Bool.{Bool, true, false, cond, not, _&&_}
+use mathlib.Core.List.{List, [], _∷_, _++_}
+use Prim.Native.Nat.{ℕ, suc, _+_, _-_, _%_, _^_}
+use lib.Dec.{leb, eqb}
+use lib.ListN.{length, take, drop, replicate}
+use Rattle.refusals.specs.Refusals.{Outcome, done, refused}
+use Rattle.record.specs.declared.Record.{Record}
+use Rattle.record.specs.declared.RecordAnswer.{RecordAnswer}
+use Rattle.record.specs.declared.RecordAnswer.the-variants as answer
+use Rattle.telegram.specs.Reading.{readOf}
+use Rattle.line.specs.declared.Reader.{Reader}
+use Rattle.line.specs.declared.Heard.{Heard}
+use Rattle.line.specs.declared.Heard.the-variants.{Nothing, Event, Refused}
+use Rattle.line.specs.declared.Fed.{Fed}
+use Rattle.line.specs.declared.Ended.{Ended}
+
+-- what a reader's state means: the bytes held, and two counts that know no end
+pub record Line : Type 0 where
+  pub held : List ℕ
+  pub fed : ℕ
+  pub stray : ℕ
+
+-- what one byte tells: nothing, or an event with its length
+pub data Told : Type 0 where
+  nothing : Told
+  event : Outcome Record → ℕ → Told
+
+-- "outside a telegram STX begins one; any other byte is stray and counted"; "inside, ETX ends it and it is judged. STX gives 9 for
+-- the bytes held and begins a new telegram with itself. Any other byte is held, but if 24 are already held it gives 10, belongs to
+-- the refused telegram (25 bytes), and the reader is outside"
+abbrev pub heldAfter : List ℕ → ℕ → List ℕ
+heldAfter [] byte = cond (eqb byte 2) (2 ∷ []) []
+heldAfter (first ∷ held) byte =
+    cond (eqb byte 3) []
+    (cond (eqb byte 2) (2 ∷ [])
+    (cond (leb 24 (length (first ∷ held))) [] ((first ∷ held) ++ byte ∷ [])))
+
+abbrev pub toldBy : List ℕ → ℕ → Told
+toldBy [] byte = nothing
+toldBy (first ∷ held) byte =
+    cond (eqb byte 3) (event (readOf true ((first ∷ held) ++ 3 ∷ [])) (length (first ∷ held) + 1))
+    (cond (eqb byte 2) (event (refused 9) (length (first ∷ held)))
+    (cond (leb 24 (length (first ∷ held))) (event (refused 10) 25) nothing))
+
+abbrev pub strayBy : List ℕ → ℕ → ℕ
+strayBy [] byte = cond (eqb byte 2) 0 1
+strayBy (first ∷ held) byte = 0
+
+abbrev pub step : Line → ℕ → Line
+step line byte =
+    record { held = heldAfter (line .held) byte; fed = line .fed + 1; stray = line .stray + strayBy (line .held) byte }
+
+-- "the start position is fed less held, with the wrap"
+abbrev pub startOf : Line → ℕ
+startOf line = (line .fed + (2 ^ 32 - length (line .held))) % 2 ^ 32
+
+-- "a call stops after the first event, or takes the whole piece where there is none, says how many bytes it took"
+pub record Feeding : Type 0 where
+  pub line : Line
+  pub taken : ℕ
+  pub told : Told
+  pub at : ℕ
+
+abbrev pub stopOr : Told → ℕ → Line → Feeding → Feeding
+stopOr nothing start next later =
+    record { line = later .line; taken = later .taken + 1; told = later .told; at = later .at }
+stopOr (event outcome size) start next later = record { line = next; taken = 1; told = event outcome size; at = start }
+
+abbrev pub feedOf : Line → List ℕ → Feeding
+feedOf line [] = record { line = line; taken = 0; told = nothing; at = 0 }
+feedOf line (byte ∷ piece) = stopOr (toldBy (line .held) byte) (startOf line) (step line byte) (feedOf (step line byte) piece)
+
+-- "the end of the line is its own call: 11 for the bytes held if any, else nothing; the state after it is outside, with fed and
+-- stray kept"
+abbrev pub ended : Line → Line
+ended line = record { held = []; fed = line .fed; stray = line .stray }
+
+abbrev pub toldByEnd : List ℕ → Told
+toldByEnd [] = nothing
+toldByEnd (first ∷ held) = event (refused 11) (length (first ∷ held))
+
+-- a reader for what it means; its counts "wrap at 4,294,967,296"
+abbrev pub readerOf : Line → Reader
+readerOf line =
+    record {
+      held = line .held ++ replicate (24 - length (line .held)) 0;
+      len = length (line .held);
+      fed = line .fed % 2 ^ 32;
+      stray = line .stray % 2 ^ 32;
+      start = startOf line;
+    }
+
+abbrev pub lineOf : Reader → Line
+lineOf reader = record { held = take (reader .len) (reader .held); fed = reader .fed; stray = reader .stray }
+
+-- "a fresh one holds none and all its counts are 0"
+abbrev pub freshLine : Line
+freshLine = record { held = []; fed = 0; stray = 0 }
+
+abbrev pub freshReader : Reader
+freshReader = record { held = replicate 24 0; len = 0; fed = 0; stray = 0; start = 0 }
+
+-- "at most 24 held; if any, the first is STX and no other is STX or ETX; places beyond the held ones are zero; the start position is
+-- fed less held, with the wrap"
+abbrev pub isPlain : ℕ → Bool
+isPlain byte = not (eqb byte 2) && not (eqb byte 3)
+
+abbrev pub allPlain : List ℕ → Bool
+allPlain [] = true
+allPlain (byte ∷ bytes) = isPlain byte && allPlain bytes
+
+abbrev pub isStarted : List ℕ → Bool
+isStarted [] = true
+isStarted (first ∷ held) = eqb first 2 && allPlain held
+
+abbrev pub allZero : List ℕ → Bool
+allZero [] = true
+allZero (byte ∷ bytes) = eqb byte 0 && allZero bytes
+
+unfoldable pub wellFormed : Reader → Bool
+wellFormed reader =
+    leb (reader .len) 24
+    && (isStarted (take (reader .len) (reader .held))
+    && (allZero (drop (reader .len) (reader .held)) && eqb (reader .start) (startOf (lineOf reader))))
+
+-- what is handed out: for each case the paper's number and values. 15 is no event
+abbrev pub answerFor : Outcome Record → RecordAnswer
+answerFor (done rec) = answer.Good rec
+answerFor (refused number) = answer.Refused number
+
+abbrev pub heardFor : Told → ℕ → Heard
+heardFor nothing start = Nothing
+heardFor (event outcome size) start = Event (answerFor outcome) start size
+
+abbrev pub fedFor : Feeding → Fed
+fedFor feeding = record { reader = readerOf (feeding .line); taken = feeding .taken; heard = heardFor (feeding .told) (feeding .at) }
+
+-- "a state refused with 15 takes no byte, gives no event and nothing else"
+unfoldable pub feedReader : Reader → List ℕ → Fed
+feedReader reader piece =
+    cond (wellFormed reader) (fedFor (feedOf (lineOf reader) piece)) (record { reader = reader; taken = 0; heard = Refused 15 })
+
+unfoldable pub endReader : Reader → Ended
+endReader reader =
+    cond (wellFormed reader)
+    (record { reader = readerOf (ended (lineOf reader)); heard = heardFor (toldByEnd (lineOf reader .held)) (reader .start) })
+    (record { reader = reader; heard = Refused 15 })

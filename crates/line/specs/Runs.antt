@@ -1,0 +1,21 @@
+-- The words of the line's private functions: runs of bytes at the front of a piece that are taken alike.
+use mathlib.Core.Bool.{cond}
+use mathlib.Core.List.{List, [], _∷_}
+use Prim.Native.Nat.{ℕ, suc, _-_}
+use lib.Dec.{eqb}
+use lib.ListN.{take}
+use Rattle.line.specs.Line.{isPlain}
+
+-- how many bytes stand before the first STX
+abbrev pub strayRun : List ℕ → ℕ
+strayRun [] = 0
+strayRun (byte ∷ piece) = cond (eqb byte 2) 0 (suc (strayRun piece))
+
+-- how many bytes stand before the first STX or ETX
+abbrev pub plainRun : List ℕ → ℕ
+plainRun [] = 0
+plainRun (byte ∷ piece) = cond (isPlain byte) (suc (plainRun piece)) 0
+
+-- as many of them as there is room for behind `len` of 24
+abbrev pub roomyRun : ℕ → List ℕ → ℕ
+roomyRun len piece = plainRun (take (24 - len) piece)

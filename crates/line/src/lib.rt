@@ -1,0 +1,269 @@
+// The line: a reader that is fed piece by piece and loses no telegram, wherever a piece ends.
+mod judge;
+mod runs;
+
+use record::RecordAnswer;
+use refusals::ENDED_INSIDE;
+use refusals::STATE_ILL_FORMED;
+use refusals::STX_INSIDE;
+use refusals::TOO_LONG;
+use std::num::wrapping_add_u32;
+use std::num::wrapping_sub_u32;
+use telegram::ETX;
+use telegram::STX;
+ghost use mathlib.Core.Path.{_≡_};
+ghost use Rattle.line.specs.Line.{freshReader, wellFormed, readerOf, feedReader, endReader, isStarted, allZero};
+ghost use mathlib.Core.Bool.{true};
+ghost use mathlib.Core.List.{[], _∷_};
+ghost use Prim.Native.Nat.{_+_, _%_, _^_, _<_};
+ghost use lib.ListN.{take, drop};
+
+pub struct Reader {
+    // The bytes of a started telegram, and zeros behind them.
+    pub held: [u8; 24],
+    pub len: usize,
+    // Bytes fed, stray bytes, and the position of the first byte held. They run free and wrap.
+    pub fed: u32,
+    pub stray: u32,
+    pub start: u32,
+}
+
+pub enum Heard {
+    Nothing,
+    // A telegram judged, or bytes refused: the outcome, the position of the first byte, the number of bytes.
+    Event(RecordAnswer, u32, u32),
+    // The reader's state is not well formed: no event, and no byte taken.
+    Refused(u8),
+}
+
+pub struct Fed {
+    pub reader: Reader,
+    pub taken: usize,
+    pub heard: Heard,
+}
+
+pub struct Ended {
+    pub reader: Reader,
+    pub heard: Heard,
+}
+
+// Whether the first `len` bytes are a started telegram, or none.
+fn is_started(held: [u8; 24], len: usize) -> bool
+    ensures { λ r. ⌜ r ≡ isStarted (take len held) ⌝ }
+{
+    if len == 0 {
+        return true;
+    }
+    if held[0] != STX {
+        return false;
+    }
+    let mut at: usize = 1;
+    while at < len && at < 24 {
+        if !runs::is_plain(held[at]) {
+            return false;
+        }
+        at += 1;
+    }
+    true
+}
+
+// Whether nothing but zeros stands from `len` on.
+fn is_zero_from(held: [u8; 24], len: usize) -> bool
+    ensures { λ r. ⌜ r ≡ allZero (drop len held) ⌝ }
+{
+    let mut at = len;
+    while at < 24 {
+        if held[at] != 0 {
+            return false;
+        }
+        at += 1;
+    }
+    true
+}
+
+// A count that wraps.
+fn moved(count: u32, by: usize) -> u32
+    ensures { λ r. ⌜ r ≡ (count + by) % 2 ^ 32 ⌝ }
+{
+    wrapping_add_u32(count, (by % 4294967296) as u32)
+}
+
+// A reader outside a telegram.
+fn outside(fed: u32, stray: u32) -> Reader
+    ensures { λ r. ⌜ r ≡ readerOf (record { held = []; fed = fed; stray = stray }) ⌝ }
+{
+    Reader {
+        held: [0u8; 24],
+        len: 0,
+        fed: fed,
+        stray: stray,
+        start: fed,
+    }
+}
+
+// A reader that holds the STX it was fed last.
+fn begun(fed: u32, stray: u32) -> Reader
+    ensures { λ r. ⌜ r ≡ readerOf (record { held = 2 ∷ []; fed = fed; stray = stray }) ⌝ }
+{
+    let mut held = [0u8; 24];
+    held[0] = STX;
+    Reader {
+        held: held,
+        len: 1,
+        fed: fed,
+        stray: stray,
+        start: wrapping_sub_u32(fed, 1),
+    }
+}
+
+// Inside a telegram: plain bytes are held at once, and the byte behind them tells.
+fn feed_inside(reader: Reader, piece: &[u8]) -> Fed
+    requires { ⌜ (wellFormed reader ≡ true) × (0 < reader .len) ⌝ }
+    ensures { λ r. ⌜ r ≡ feedReader reader (now (piece .entry)) ⌝ }
+{
+    let held = reader.held;
+    let gathered = runs::gather(held, reader.len, piece);
+    let added = gathered.added;
+    let all = gathered.held;
+    let len = reader.len + added;
+    let stray = reader.stray;
+    let start = reader.start;
+    if added == piece.len() {
+        return Fed {
+            reader: Reader {
+                held: all,
+                len: len,
+                fed: moved(reader.fed, added),
+                stray: stray,
+                start: start,
+            },
+            taken: added,
+            heard: Heard::Nothing,
+        };
+    }
+    let byte = piece[added];
+    let taken = added + 1;
+    let fed = moved(reader.fed, taken);
+    let size = len as u32;
+    if byte == ETX {
+        let answer = judge::judge(all, len);
+        return Fed {
+            reader: outside(fed, stray),
+            taken: taken,
+            heard: Heard::Event(answer, start, size + 1),
+        };
+    }
+    if byte == STX {
+        return Fed {
+            reader: begun(fed, stray),
+            taken: taken,
+            heard: Heard::Event(RecordAnswer::Refused(STX_INSIDE), start, size),
+        };
+    }
+    Fed {
+        reader: outside(fed, stray),
+        taken: taken,
+        heard: Heard::Event(RecordAnswer::Refused(TOO_LONG), start, 25),
+    }
+}
+
+// Outside a telegram: the bytes before the first STX are stray, and counted at once.
+fn feed_outside(fed: u32, stray: u32, piece: &[u8]) -> Fed
+    ensures { λ r. ⌜ r ≡ feedReader (readerOf (record { held = []; fed = fed; stray = stray })) (now (piece .entry)) ⌝ }
+{
+    let skipped = runs::stray_run(piece);
+    let stray = moved(stray, skipped);
+    let length = piece.len();
+    if skipped == length {
+        return Fed {
+            reader: outside(moved(fed, skipped), stray),
+            taken: skipped,
+            heard: Heard::Nothing,
+        };
+    }
+    let first = skipped + 1;
+    let inside = begun(moved(fed, first), stray);
+    let later = feed_inside(inside, &piece[first..length]);
+    let reader = later.reader;
+    let heard = later.heard;
+    Fed {
+        reader: reader,
+        taken: first + later.taken,
+        heard: heard,
+    }
+}
+
+impl Reader {
+    pub fn fresh() -> Reader
+        ensures { λ r. ⌜ r ≡ freshReader ⌝ }
+    {
+        Reader {
+            held: [0u8; 24],
+            len: 0,
+            fed: 0,
+            stray: 0,
+            start: 0,
+        }
+    }
+
+    pub fn is_well_formed(self) -> bool
+        ensures { λ r. ⌜ r ≡ wellFormed self ⌝ }
+    {
+        let held = self.held;
+        let len = self.len;
+        if 24 < len {
+            return false;
+        }
+        if !is_started(held, len) {
+            return false;
+        }
+        if !is_zero_from(held, len) {
+            return false;
+        }
+        self.start == wrapping_sub_u32(self.fed, len as u32)
+    }
+
+    // Feeds bytes as they come, up to the first event. What was not taken is to be fed next.
+    pub fn feed(self, piece: &[u8]) -> Fed
+        ensures { λ r. ⌜ r ≡ feedReader self (now (piece .entry)) ⌝ }
+    {
+        if !self.is_well_formed() {
+            return Fed {
+                reader: self,
+                taken: 0,
+                heard: Heard::Refused(STATE_ILL_FORMED),
+            };
+        }
+        if self.len == 0 {
+            return feed_outside(self.fed, self.stray, piece);
+        }
+        feed_inside(self, piece)
+    }
+
+    // The end of the line.
+    pub fn end(self) -> Ended
+        ensures { λ r. ⌜ r ≡ endReader self ⌝ }
+    {
+        if !self.is_well_formed() {
+            return Ended {
+                reader: self,
+                heard: Heard::Refused(STATE_ILL_FORMED),
+            };
+        }
+        let reader = outside(self.fed, self.stray);
+        if self.len == 0 {
+            return Ended {
+                reader: reader,
+                heard: Heard::Nothing,
+            };
+        }
+        Ended {
+            reader: reader,
+            heard: Heard::Event(
+                RecordAnswer::Refused(ENDED_INSIDE),
+                self.start,
+                self.len as u32,
+            ),
+        }
+    }
+}

@@ -1,0 +1,65 @@
+// Runs of bytes at the front of a piece that are taken alike, and so taken at once.
+use telegram::ETX;
+use telegram::STX;
+ghost use mathlib.Core.Path.{_≡_};
+ghost use lib.Seq.{paste};
+ghost use Rattle.line.specs.Line.{isPlain};
+ghost use Rattle.line.specs.Runs.{strayRun, roomyRun};
+
+pub fn is_plain(byte: u8) -> bool
+    ensures { λ r. ⌜ r ≡ isPlain byte ⌝ }
+{
+    if byte == STX {
+        return false;
+    }
+    byte != ETX
+}
+
+// How many bytes stand before the first STX.
+pub fn stray_run(piece: &[u8]) -> usize
+    ensures { λ r. ⌜ r ≡ strayRun (now (piece .entry)) ⌝ }
+{
+    let length = piece.len();
+    let mut at: usize = 0;
+    while at < length {
+        if piece[at] == STX {
+            return at;
+        }
+        at += 1;
+    }
+    at
+}
+
+// Bytes held behind others.
+pub struct Gathered {
+    pub held: [u8; 24],
+    // How many were added.
+    pub added: usize,
+}
+
+// Holds the plain bytes at the front of a piece behind the first `len`, as far as there is room.
+pub fn gather(held: [u8; 24], len: usize, piece: &[u8]) -> Gathered
+    ensures added { λ r. ⌜ r .added ≡ roomyRun len (now (piece .entry)) ⌝ }
+    ensures laid { λ r. ⌜ r .held ≡ paste held len (now (piece .entry)) (roomyRun len (now (piece .entry))) ⌝ }
+{
+    let length = piece.len();
+    let mut all = held;
+    let mut at: usize = 0;
+    let mut end = len;
+    while end < 24 && at < length {
+        let byte = piece[at];
+        if !is_plain(byte) {
+            return Gathered {
+                held: all,
+                added: at,
+            };
+        }
+        all[end] = byte;
+        end += 1;
+        at += 1;
+    }
+    Gathered {
+        held: all,
+        added: at,
+    }
+}
