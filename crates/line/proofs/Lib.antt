@@ -6,3 +6,8 @@ pub mod Copies
 pub mod Inside
 pub mod Wraps
 pub mod Strays
+pub mod StaysGood
+pub mod CutLaws
+pub mod AccountLaws
+pub mod SentLaws
+pub mod DemandLaws

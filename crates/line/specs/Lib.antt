@@ -1,2 +1,5 @@
 pub mod Line
 pub mod Runs
+pub mod Cuts
+pub mod Account
+pub mod Demand

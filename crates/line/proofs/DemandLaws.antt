@@ -1,0 +1,141 @@
+-- Demand 3: a line of good records gives exactly those records, wherever it is cut. Assumes nothing.
+use mathlib.Core.Path.{_≡_, refl, ap, ap₂, sym, _∙_}
+use mathlib.Core.Bool.{Bool, true, false, _&&_}
+use mathlib.Core.List.{List, [], _∷_, _++_, map}
+use Prim.Native.Nat.{ℕ, suc, _+_, _-_, _%_, _^_, _≤_, _<_}
+use native.Mathlib.Nat.{add-zero, zero-add}
+use native.Mathlib.Omega.{arith}
+use lib.Dec.{eqb}
+use lib.ListN.{length, length-append}
+use borrow.Author.Tests.{eqb-true}
+use Rattle.refusals.specs.Refusals.{done}
+use Rattle.refusals.proofs.Laws.{both}
+use Rattle.record.specs.declared.Record.{Record}
+use Rattle.record.specs.declared.RecordAnswer.{RecordAnswer}
+use Rattle.record.specs.declared.RecordAnswer.the-variants as answer
+use Rattle.record.specs.Rule.{refusalOf}
+use Rattle.telegram.specs.Reading.{readOf}
+use Rattle.telegram.specs.Writing.{bodyBytes, telegramOf}
+use Rattle.telegram.proofs.BackAndForth.{written-reads-back}
+use Rattle.line.specs.declared.Heard.{Heard}
+use Rattle.line.specs.declared.Heard.the-variants.{Nothing, Event, Refused}
+use Rattle.line.specs.Line.{Line, startOf, answerFor, readerOf, freshLine, freshReader, endReader}
+use Rattle.line.specs.Cuts.{eventsOf, lineAfter, Served, joined, heardFrom, readerAfter, UsedUp}
+use Rattle.line.specs.Demand.{Sent, bytesSent, noStx, allGood, eventsSent, straySent}
+use Rattle.line.proofs.FeedLaws.{inside, outside}
+use Rattle.line.proofs.ReaderLaws.{end-outside}
+use Rattle.line.proofs.Wraps.{reader-well}
+use Rattle.line.proofs.CutLaws.{events-join, after-join, cut-anywhere, good-fresh}
+use Rattle.line.proofs.SentLaws.{Gives, plain-body, body-fits, strays-give, plain-gives}
+
+gives-join : (line : Line) (a b : List ℕ) (ea eb : List Heard) (mid after : Line) → Gives line a ea mid → Gives mid b eb after → Gives line (a ++ b) (ea ++ eb) after
+gives-join line a b ea eb mid after of-a of-b = (
+  events-join line a b ∙ ap₂ _++_ (of-a .0) (ap (λ l. eventsOf l b) (of-a .1) ∙ of-b .0),
+  after-join line a b ∙ ap (λ l. lineAfter l b) (of-a .1) ∙ of-b .1,
+)
+
+-- one telegram is one event
+module _ (rec : Record) (none : refusalOf rec ≡ 0) (fed stray : ℕ) where
+  abbrev body : List ℕ
+  body = bodyBytes rec
+
+  abbrev size : ℕ
+  size = length body
+
+  ends : Gives (inside (2 ∷ body) (fed + 1 + size) stray) (3 ∷ []) (Event (answer.Good rec) (fed % 2 ^ 32) (suc (size + 1)) ∷ []) (outside (fed + 1 + size + 1) stray)
+  ends =
+      let judged : answerFor (readOf true ((2 ∷ body) ++ 3 ∷ [])) ≡ answer.Good rec = ap answerFor (written-reads-back rec none true) in
+      let fits = body-fits rec in
+      let start : (fed + 1 + size + (2 ^ 32 - suc size)) % 2 ^ 32 ≡ fed % 2 ^ 32 = omega (arith, fits) in
+      let count : suc size + 1 ≡ suc (size + 1) = omega arith in
+      ((λ i. Event (judged i) (start i) (count i) ∷ []), λ i. outside (fed + 1 + size + 1) (add-zero stray i))
+
+  runs : Gives (inside (2 ∷ []) (fed + 1) stray) (body ++ 3 ∷ []) (Event (answer.Good rec) (fed % 2 ^ 32) (suc (size + 1)) ∷ []) (outside (fed + 1 + size + 1) stray)
+  runs =
+      gives-join (inside (2 ∷ []) (fed + 1) stray) body (3 ∷ []) [] _ _ _
+      (plain-gives 2 [] (fed + 1) stray body (plain-body rec) (omega (arith, body-fits rec)))
+      ends
+
+  pub telegram-gives : Gives (outside fed stray) (telegramOf true rec)
+      (Event (answer.Good rec) (fed % 2 ^ 32) (length (telegramOf true rec)) ∷ [])
+      (outside (fed + length (telegramOf true rec)) stray)
+  telegram-gives =
+      let count : suc (size + 1) ≡ suc (length (body ++ 3 ∷ [])) = omega (arith, length-append body (3 ∷ [])) in
+      let sum : fed + 1 + size + 1 ≡ fed + suc (length (body ++ 3 ∷ [])) = omega (arith, length-append body (3 ∷ [])) in (
+        ap (λ s. eventsOf (inside (2 ∷ []) (fed + 1) s) (body ++ 3 ∷ [])) (add-zero stray)
+            ∙ runs .0
+            ∙ (λ i. Event (answer.Good rec) (fed % 2 ^ 32) (count i) ∷ []),
+        ap (λ s. lineAfter (inside (2 ∷ []) (fed + 1) s) (body ++ 3 ∷ [])) (add-zero stray)
+            ∙ runs .1
+            ∙ (λ i. outside (sum i) stray),
+      )
+
+-- the whole line
+pub sent-gives : (sents : List Sent) (behind : List ℕ) (fed stray : ℕ) → allGood sents behind ≡ true
+    → Gives (outside fed stray) (bytesSent sents behind) (eventsSent fed sents) (outside (fed + length (bytesSent sents behind)) (stray + straySent sents behind))
+sent-gives [] behind fed stray good = strays-give fed stray behind good
+sent-gives (sent ∷ others) behind fed stray good =
+    let parts = both (noStx (sent .before) && eqb (refusalOf (sent .rec)) 0) (allGood others behind) good in
+    let here = both (noStx (sent .before)) (eqb (refusalOf (sent .rec)) 0) (parts .0) in
+    let gap = length (sent .before) in
+    let telegram = telegramOf true (sent .rec) in
+    let rest = bytesSent others behind in
+    let on = sent-gives others behind (fed + gap + length telegram) (stray + gap) (parts .1) in
+    let f : fed + gap + length telegram + length rest ≡ fed + length (sent .before ++ (telegram ++ rest)) =
+    omega (arith, length-append (sent .before) (telegram ++ rest), length-append telegram rest) in
+    let s : stray + gap + straySent others behind ≡ stray + (gap + straySent others behind) = omega arith in
+    let all =
+    gives-join (outside fed stray) (sent .before) (telegram ++ rest) [] _ _ _
+    (strays-give fed stray (sent .before) (here .0))
+    (gives-join (outside (fed + gap) (stray + gap)) telegram rest _ _ _ _
+    (telegram-gives (sent .rec) (eqb-true (refusalOf (sent .rec)) 0 (here .1)) (fed + gap) (stray + gap))
+    on) in
+    (all .0, all .1 ∙ (λ i. outside (f i) (s i)))
+
+-- cut anywhere, fed to a fresh reader by any caller's loop
+module _ (sents : List Sent) (behind : List ℕ) (good : allGood sents behind ≡ true) (served : List Served) (same : joined served ≡ bytesSent sents behind)
+    (used : UsedUp freshReader served) where
+  gives : Gives freshLine (bytesSent sents behind) (eventsSent 0 sents) (outside (0 + length (bytesSent sents behind)) (0 + straySent sents behind))
+  gives = sent-gives sents behind 0 0 good
+
+  pub exactly-those : heardFrom freshReader served ≡ eventsSent 0 sents
+  exactly-those = cut-anywhere served freshLine freshReader good-fresh refl used .0 ∙ ap (eventsOf freshLine) same ∙ gives .0
+
+  pub reader-then : readerAfter freshReader served ≡ readerOf (outside (length (bytesSent sents behind)) (straySent sents behind))
+  reader-then =
+      cut-anywhere served freshLine freshReader good-fresh refl used .1
+      ∙ ap (λ bytes. readerOf (lineAfter freshLine bytes)) same
+      ∙ ap readerOf (gives .1)
+      ∙ (λ i. readerOf (outside (zero-add (length (bytesSent sents behind)) i) (zero-add (straySent sents behind) i)))
+
+  pub true-stray : readerAfter freshReader served .stray ≡ straySent sents behind % 2 ^ 32
+  true-stray = ap (λ reader. reader .stray) reader-then
+
+  pub end-then : endReader (readerAfter freshReader served) .heard ≡ Nothing
+  end-then =
+      let last = readerOf (outside (length (bytesSent sents behind)) (straySent sents behind)) in
+      ap (λ reader. endReader reader .heard) reader-then
+      ∙ ap (λ ended. ended .heard) (end-outside last (reader-well [] (length (bytesSent sents behind)) (straySent sents behind) (omega arith) refl) refl)
+
+-- two lists that make the same line are the same list
+recordOf : RecordAnswer → List Record
+recordOf (answer.Good rec) = rec ∷ []
+recordOf (answer.Refused number) = []
+
+recordsIn : List Heard → List Record
+recordsIn [] = []
+recordsIn (Nothing ∷ heard) = recordsIn heard
+recordsIn (Event answer start size ∷ heard) = recordOf answer ++ recordsIn heard
+recordsIn (Refused number ∷ heard) = recordsIn heard
+
+records-back : (from : ℕ) (sents : List Sent) → recordsIn (eventsSent from sents) ≡ map (λ sent. sent .rec) sents
+unfolding recordsIn recordOf
+records-back from [] = refl
+records-back from (sent ∷ others) = ap (_∷_ (sent .rec)) (records-back (from + length (sent .before) + length (telegramOf true (sent .rec))) others)
+
+pub same-line-same-records : (a b : List Sent) (behind-a behind-b : List ℕ) → allGood a behind-a ≡ true → allGood b behind-b ≡ true
+    → bytesSent a behind-a ≡ bytesSent b behind-b → map (λ sent. sent .rec) a ≡ map (λ sent. sent .rec) b
+same-line-same-records a b behind-a behind-b good-a good-b same =
+    sym (records-back 0 a)
+    ∙ ap recordsIn (sym (sent-gives a behind-a 0 0 good-a .0) ∙ ap (eventsOf (outside 0 0)) same ∙ sent-gives b behind-b 0 0 good-b .0)
+    ∙ records-back 0 b

@@ -1,0 +1,87 @@
+-- Laws of what is sent: the body of a telegram is plain, and a telegram on the line is one event. Assumes nothing.
+use mathlib.Core.Path.{_≡_, refl, ap, sym, _∙_}
+use mathlib.Core.Bool.{Bool, true, false, cond, not, _&&_}
+use mathlib.Core.List.{List, [], _∷_, _++_, map, append-nil, append-assoc}
+use Prim.Native.Nat.{ℕ, suc, _+_, _-_, _%_, _^_, _≤_, _<_}
+use native.Mathlib.Nat.{add-zero}
+use native.Mathlib.Omega.{arith}
+use lib.Dec.{eqb, leb, ltb}
+use lib.ListN.{length, getD, length-append}
+use borrow.Author.Tests.{ne-eqb, lt-leb, not-true}
+use Rattle.refusals.specs.Refusals.{done}
+use Rattle.refusals.proofs.Laws.{both}
+use Rattle.places.specs.Places.{Place, fixed, decimal, code, codeCharacter, byteAt, render}
+use Rattle.places.proofs.Rows.{soundPlace, sound}
+use Rattle.places.proofs.Rendering.{length-render}
+use Rattle.record.specs.declared.Record.{Record}
+use Rattle.record.specs.declared.RecordAnswer.the-variants as answer
+use Rattle.record.specs.Rule.{refusalOf}
+use Rattle.layouts.specs.Layouts.{rowOf, ownLayout}
+use Rattle.layouts.specs.Coding.{digitsOut}
+use Rattle.layouts.proofs.RowLaws.{row-sound, row-length}
+use Rattle.telegram.specs.Reading.{readOf}
+use Rattle.telegram.specs.Writing.{bodyBytes, telegramOf}
+use Rattle.telegram.proofs.BackAndForth.{written-reads-back}
+use Rattle.line.specs.declared.Heard.{Heard}
+use Rattle.line.specs.declared.Heard.the-variants.{Event}
+use Rattle.line.specs.Line.{Line, event, startOf, answerFor, isPlain, allPlain}
+use Rattle.line.specs.Cuts.{eventsOf, lineAfter}
+use Rattle.line.specs.Demand.{noStx}
+use Rattle.line.proofs.FeedLaws.{inside, outside}
+use Rattle.line.proofs.CutLaws.{events-join, after-join}
+
+-- characters are plain
+plain-above : (byte : ℕ) → 4 ≤ byte → isPlain byte ≡ true
+plain-above byte above = simp (ne-eqb byte 2 (λ e. absurd (omega arith)), ne-eqb byte 3 (λ e. absurd (omega arith)))
+
+character-above : (t : Bool) (value : ℕ) → 4 ≤ cond t (value + 48) (value + 55)
+character-above true value = omega arith
+character-above false value = omega arith
+
+plain-character : (value : ℕ) → isPlain (codeCharacter value) ≡ true
+unfolding codeCharacter
+plain-character value = plain-above (cond (ltb value 10) (value + 48) (value + 55)) (character-above (ltb value 10) value)
+
+plain-at : (digits : List ℕ) (p : Place) → soundPlace p ≡ true → isPlain (byteAt digits p) ≡ true
+plain-at digits (fixed character) s = s
+plain-at digits (decimal slot) s = plain-character (getD digits slot 0 % 16)
+plain-at digits (code slot) s = plain-character (getD digits slot 0 % 16)
+
+plain-row : (row : List Place) (digits : List ℕ) → sound row ≡ true → allPlain (map (byteAt digits) row) ≡ true
+plain-row [] digits s = refl
+plain-row (p ∷ row) digits s =
+    let parts = both (soundPlace p) (sound row) s in
+    rw (plain-at digits p (parts .0), plain-row row digits (parts .1))
+
+pub plain-body : (rec : Record) → allPlain (bodyBytes rec) ≡ true
+unfolding bodyBytes render
+plain-body rec = plain-row (rowOf (ownLayout rec)) (digitsOut rec) (row-sound (ownLayout rec))
+
+pub body-fits : (rec : Record) → length (bodyBytes rec) ≤ 23
+unfolding bodyBytes
+body-fits rec = omega (arith, length-render (rowOf (ownLayout rec)) (digitsOut rec), row-length (ownLayout rec) .1)
+
+-- strays
+abbrev pub Gives : Line → List ℕ → List Heard → Line → Type 0
+Gives line bytes events after = (eventsOf line bytes ≡ events) × (lineAfter line bytes ≡ after)
+
+pub strays-give : (fed stray : ℕ) (bytes : List ℕ) → noStx bytes ≡ true → Gives (outside fed stray) bytes [] (outside (fed + length bytes) (stray + length bytes))
+strays-give fed stray [] none = (refl, λ i. outside (sym (add-zero fed) i) (sym (add-zero stray) i))
+strays-give fed stray (byte ∷ bytes) none =
+    let parts = both (not (eqb byte 2)) (noStx bytes) none in
+    let on = strays-give (fed + 1) (stray + 1) bytes (parts .1) in
+    let f : fed + 1 + length bytes ≡ fed + suc (length bytes) = omega arith in
+    let s : stray + 1 + length bytes ≡ stray + suc (length bytes) = omega arith in
+    rw (not-true (eqb byte 2) (parts .0)) (on .0, on .1 ∙ (λ i. outside (f i) (s i)))
+
+-- plain bytes inside
+pub plain-gives : (first : ℕ) (held : List ℕ) (fed stray : ℕ) (bytes : List ℕ) → allPlain bytes ≡ true → length (first ∷ held) + length bytes ≤ 24
+    → Gives (inside (first ∷ held) fed stray) bytes [] (inside ((first ∷ held) ++ bytes) (fed + length bytes) stray)
+plain-gives first held fed stray [] plain room = (refl, λ i. inside (sym (append-nil (first ∷ held)) i) (sym (add-zero fed) i) stray)
+plain-gives first held fed stray (byte ∷ bytes) plain room =
+    let parts = both (isPlain byte) (allPlain bytes) plain in
+    let apart = both (not (eqb byte 2)) (not (eqb byte 3)) (parts .0) in
+    let on = plain-gives first (held ++ byte ∷ []) (fed + 1) stray bytes (parts .1) (omega (arith, length-append held (byte ∷ []))) in
+    let f : fed + 1 + length bytes ≡ fed + suc (length bytes) = omega arith in
+    rw (not-true (eqb byte 2) (apart .0), not-true (eqb byte 3) (apart .1), lt-leb 24 (length (first ∷ held)) (omega arith), add-zero stray)
+    (on .0, on .1 ∙ (λ i. inside (first ∷ append-assoc held (byte ∷ []) bytes i) (f i) stray))

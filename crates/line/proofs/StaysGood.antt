@@ -1,0 +1,71 @@
+-- Good states stay good: what feed and end return for a well-formed state is well formed. Assumes nothing.
+use mathlib.Core.Path.{_≡_, refl, ap, sym, _∙_}
+use mathlib.Core.Bool.{Bool, true, false, cond, not, _&&_}
+use mathlib.Core.List.{List, [], _∷_, _++_}
+use Prim.Native.Nat.{ℕ, suc, _+_, _-_, _≤_, _<_, _^_}
+use native.Mathlib.Omega.{arith}
+use lib.Dec.{eqb, leb}
+use lib.ListN.{length, take}
+use Rattle.refusals.proofs.Laws.{both}
+use Rattle.line.specs.declared.Reader.{Reader}
+use Rattle.line.specs.Line.{Line, Told, nothing, event, Feeding, stopOr, feedOf, heldAfter, toldBy, strayBy, step, readerOf, lineOf, isPlain, allPlain, isStarted, wellFormed, feedReader, endReader}
+use Rattle.line.proofs.Forms.{taken-length}
+use Rattle.line.proofs.ReaderLaws.{Well, well}
+use Rattle.line.proofs.Wraps.{held-fits, reader-well}
+
+-- a line whose reader is well formed
+pub record Good (line : Line) : Type 0 where
+  pub fits : length (line .held) ≤ 24
+  pub started : isStarted (line .held) ≡ true
+
+plain-behind : (held : List ℕ) (byte : ℕ) → allPlain held ≡ true → isPlain byte ≡ true → allPlain (held ++ byte ∷ []) ≡ true
+plain-behind [] byte h p = rw p
+plain-behind (first ∷ held) byte h p =
+    let parts = both (isPlain first) (allPlain held) h in
+    rw (parts .0, plain-behind held byte (parts .1) p)
+
+begins : (stx : Bool) → isStarted (cond {A = List ℕ} stx (2 ∷ []) []) ≡ true
+begins true = refl
+begins false = refl
+
+goes-on : (first : ℕ) (held : List ℕ) (byte : ℕ) (etx stx full : Bool) → eqb byte 3 ≡ etx → eqb byte 2 ≡ stx → isStarted (first ∷ held) ≡ true
+    → isStarted (cond etx [] (cond stx (2 ∷ []) (cond full [] ((first ∷ held) ++ byte ∷ [])))) ≡ true
+goes-on first held byte true stx full e s h = refl
+goes-on first held byte false true full e s h = refl
+goes-on first held byte false false true e s h = refl
+goes-on first held byte false false false e s h =
+    let parts = both (eqb first 2) (allPlain held) h in
+    let plain : isPlain byte ≡ true = simp (e, s) in
+    rw (parts .0, plain-behind held byte (parts .1) plain)
+
+started-stays : (held : List ℕ) (byte : ℕ) → isStarted held ≡ true → isStarted (heldAfter held byte) ≡ true
+started-stays [] byte h = begins (eqb byte 2)
+started-stays (first ∷ held) byte h = goes-on first held byte (eqb byte 3) (eqb byte 2) (leb 24 (length (first ∷ held))) refl refl h
+
+pub good-step : (line : Line) (byte : ℕ) → Good line → Good (step line byte)
+good-step line byte good = record { fits = held-fits (line .held) byte; started = started-stays (line .held) byte (good .started) }
+
+good-by : (told : Told) (start : ℕ) (next : Line) (on : Feeding) → Good next → Good (on .line) → Good (stopOr told start next on .line)
+good-by nothing start next on n o = o
+good-by (event outcome size) start next on n o = n
+
+pub good-feed : (line : Line) (piece : List ℕ) → Good line → Good (feedOf line piece .line)
+good-feed line [] good = good
+good-feed line (byte ∷ piece) good =
+    good-by (toldBy (line .held) byte) _ _ _ (good-step line byte good) (good-feed (step line byte) piece (good-step line byte good))
+
+pub reader-of-good : (line : Line) → Good line → wellFormed (readerOf line) ≡ true
+reader-of-good line good = reader-well (line .held) (line .fed) (line .stray) (good .fits) (good .started)
+
+module _ (reader : Reader) (size : length (reader .held) ≡ 24) (e : wellFormed reader ≡ true) where
+  pub good-line : Good (lineOf reader)
+  good-line =
+      record { fits = omega (arith, taken-length (reader .held) (reader .len) size); started = well reader e .started }
+
+  pub feed-stays-good : (piece : List ℕ) → wellFormed (feedReader reader piece .reader) ≡ true
+  unfolding feedReader
+  feed-stays-good piece = rw e (reader-of-good (feedOf (lineOf reader) piece .line) (good-feed (lineOf reader) piece good-line))
+
+  pub end-stays-good : wellFormed (endReader reader .reader) ≡ true
+  unfolding endReader
+  end-stays-good = rw e (reader-well [] (reader .fed) (reader .stray) (omega arith) refl)

@@ -1,0 +1,18 @@
+-- Document 01, "The line, byte by byte": the account of the bytes. "The first two sums are defined from the bytes."
+use mathlib.Core.List.{List, [], _∷_}
+use Prim.Native.Nat.{ℕ, _+_}
+use Rattle.line.specs.Line.{Line, Told, nothing, event, toldBy, strayBy, step}
+
+-- the bytes of an event
+abbrev pub sizeOf : Told → ℕ
+sizeOf nothing = 0
+sizeOf (event outcome size) = size
+
+-- the lengths of all events, and the number of stray bytes
+abbrev pub lengthsOf : Line → List ℕ → ℕ
+lengthsOf line [] = 0
+lengthsOf line (byte ∷ bytes) = sizeOf (toldBy (line .held) byte) + lengthsOf (step line byte) bytes
+
+abbrev pub straysOf : Line → List ℕ → ℕ
+straysOf line [] = 0
+straysOf line (byte ∷ bytes) = strayBy (line .held) byte + straysOf (step line byte) bytes
