@@ -2,7 +2,7 @@
 use mathlib.Core.Path.{_≡_, refl, ap, sym, _∙_}
 use mathlib.Core.Bool.{Bool, true, false, cond}
 use mathlib.Core.List.{List, [], _∷_, _++_}
-use Prim.Native.Nat.{ℕ, suc, _+_, _%_, _^_, _≤_, _<_}
+use Prim.Native.Nat.{ℕ, _+_, _%_, _^_, _≤_}
 use native.Mathlib.Nat.{zero-add}
 use native.Mathlib.Omega.{arith}
 use lib.Dec.{eqb, leb}
@@ -10,7 +10,7 @@ use lib.ListN.{length, length-append}
 use borrow.Author.Tests.{leb-true}
 use Rattle.refusals.specs.Refusals.{refused}
 use Rattle.telegram.specs.Reading.{readOf}
-use Rattle.line.specs.Line.{Line, Told, nothing, event, heldAfter, toldBy, strayBy, step, freshLine, readerOf, ended, toldByEnd}
+use Rattle.line.specs.Line.{Line, nothing, event, heldAfter, toldBy, strayBy, step, freshLine, readerOf, ended, toldByEnd}
 use Rattle.line.specs.Cuts.{lineAfter}
 use Rattle.line.specs.Account.{sizeOf, lengthsOf, straysOf}
 use Rattle.line.proofs.StaysGood.{Good, good-step}

@@ -1,12 +1,11 @@
 -- Laws of copying bytes one by one. Assumes nothing.
 use mathlib.Core.Path.{_≡_, ap, sym, _∙_}
 use mathlib.Core.List.{List, [], _∷_, _++_}
-use Prim.Native.Nat.{ℕ, zero, suc, _+_, _≤_, _<_, min}
+use Prim.Native.Nat.{ℕ, zero, suc, _+_, _<_, min}
 use native.Mathlib.Nat.{zero-min, min-zero, suc-min-suc}
 use native.Mathlib.Numerals.{add-one}
-use native.Mathlib.Omega.{arith}
-use lib.ListN.{length, take, drop, getD, set}
-use lib.Seq.{take-suc, take-suc-set, take-all}
+use lib.ListN.{length, take, getD, set}
+use lib.Seq.{take-suc, take-suc-set}
 
 pub copy-step : (from to : List ℕ) (at : ℕ) → at < length from → at < length to → take at to ≡ take at from
     → take (at + 1) (set to at (getD from at 0)) ≡ take (at + 1) from

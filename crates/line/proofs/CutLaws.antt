@@ -1,16 +1,16 @@
 -- Cut independence: any way of cutting a line into pieces, each fed until it is used up, tells the same and leaves the same reader.
 -- Assumes nothing.
 use mathlib.Core.Path.{_≡_, refl, ap, ap₂, sym, _∙_}
-use mathlib.Core.List.{List, [], _∷_, _++_, append-assoc, map}
+use mathlib.Core.List.{List, [], _∷_, _++_, map}
 use Prim.Native.Nat.{ℕ, zero, suc, _+_, _-_, _≤_, _<_}
-use Prim.{Unit, tt}
+use Prim.{tt}
 use native.Mathlib.Numerals.{add-one}
 use native.Mathlib.Omega.{arith}
 use lib.ListN.{length, drop, length-drop}
 use Rattle.line.specs.declared.Reader.{Reader}
 use Rattle.line.specs.declared.Fed.{Fed}
 use Rattle.line.specs.declared.Heard.{Heard}
-use Rattle.line.specs.Line.{Line, Told, nothing, event, Feeding, stopOr, feedOf, toldBy, step, startOf, readerOf, heardFor, fedFor, freshLine, freshReader, feedReader}
+use Rattle.line.specs.Line.{Line, Told, nothing, event, Feeding, stopOr, feedOf, toldBy, step, startOf, readerOf, heardFor, fedFor, freshLine, freshReader}
 use Rattle.line.specs.Cuts.{tells, eventsOf, lineAfter, Calls, heardThen, calls, Served, joined, heardFrom, readerAfter, UsedUp}
 use Rattle.line.proofs.Wraps.{feed-reader}
 use Rattle.line.proofs.StaysGood.{Good, good-step, good-feed}

@@ -1,14 +1,13 @@
 -- Demand 3: a line of good records gives exactly those records, wherever it is cut. Assumes nothing.
 use mathlib.Core.Path.{_≡_, refl, ap, ap₂, sym, _∙_}
-use mathlib.Core.Bool.{Bool, true, false, _&&_}
+use mathlib.Core.Bool.{true, _&&_}
 use mathlib.Core.List.{List, [], _∷_, _++_, map}
-use Prim.Native.Nat.{ℕ, suc, _+_, _-_, _%_, _^_, _≤_, _<_}
+use Prim.Native.Nat.{ℕ, suc, _+_, _-_, _%_, _^_}
 use native.Mathlib.Nat.{add-zero, zero-add}
 use native.Mathlib.Omega.{arith}
 use lib.Dec.{eqb}
 use lib.ListN.{length, length-append}
 use borrow.Author.Tests.{eqb-true}
-use Rattle.refusals.specs.Refusals.{done}
 use Rattle.refusals.proofs.Laws.{both}
 use Rattle.record.specs.declared.Record.{Record}
 use Rattle.record.specs.declared.RecordAnswer.{RecordAnswer}
@@ -19,7 +18,7 @@ use Rattle.telegram.specs.Writing.{bodyBytes, telegramOf}
 use Rattle.telegram.proofs.BackAndForth.{written-reads-back}
 use Rattle.line.specs.declared.Heard.{Heard}
 use Rattle.line.specs.declared.Heard.the-variants.{Nothing, Event, Refused}
-use Rattle.line.specs.Line.{Line, startOf, answerFor, readerOf, freshLine, freshReader, endReader}
+use Rattle.line.specs.Line.{Line, answerFor, readerOf, freshLine, freshReader, endReader}
 use Rattle.line.specs.Cuts.{eventsOf, lineAfter, Served, joined, heardFrom, readerAfter, UsedUp}
 use Rattle.line.specs.Demand.{Sent, bytesSent, noStx, allGood, eventsSent, straySent}
 use Rattle.line.proofs.FeedLaws.{inside, outside}

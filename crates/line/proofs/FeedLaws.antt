@@ -1,14 +1,13 @@
 -- Laws of feeding: a run of bytes that are taken alike is taken at once. Assumes nothing.
 use mathlib.Core.Path.{_≡_, refl, ap, sym, _∙_}
-use mathlib.Core.Bool.{Bool, true, false, cond, not, _&&_}
+use mathlib.Core.Bool.{Bool, true, false, not}
 use mathlib.Core.List.{List, [], _∷_, _++_, append-nil, append-assoc}
 use Prim.Native.Nat.{ℕ, zero, suc, _+_, _-_, _≤_, _<_}
 use native.Mathlib.Nat.{add-zero}
-use native.Mathlib.Numerals.{add-one}
 use native.Mathlib.Omega.{arith}
-use lib.Dec.{eqb, leb}
+use lib.Dec.{eqb}
 use lib.ListN.{length, take, drop, length-append}
-use borrow.Author.Tests.{eqb-true, eqb-false, lt-leb, le-leb, not-true}
+use borrow.Author.Tests.{lt-leb, not-true}
 use Rattle.refusals.proofs.Laws.{both}
 use Rattle.line.specs.Line.{Line, Feeding, feedOf, isPlain}
 use Rattle.line.specs.Runs.{strayRun, plainRun, roomyRun}

@@ -2,7 +2,7 @@
 use mathlib.Core.Path.{_≡_, refl, ap, ap₂, sym, _∙_}
 use mathlib.Core.Bool.{Bool, true, false, true≢false}
 use mathlib.Core.List.{List, [], _∷_, _++_}
-use Prim.Native.Nat.{ℕ, zero, suc, _+_, _-_, _%_, _^_, _≤_, _<_, min}
+use Prim.Native.Nat.{ℕ, suc, _+_, _-_, _%_, _^_, _≤_, _<_}
 use native.Mathlib.Nat.{add-zero, zero-add}
 use native.Mathlib.Omega.{arith}
 use lib.Dec.{ltb}
@@ -17,12 +17,12 @@ use Rattle.record.specs.Answers.{recordAnswer}
 use Rattle.telegram.specs.Reading.{readOf}
 use Rattle.line.specs.declared.Reader.{Reader}
 use Rattle.line.specs.declared.Heard.the-variants.{Nothing, Event}
-use Rattle.line.specs.Line.{isPlain, Line, Told, event, Feeding, feedOf, startOf, readerOf, lineOf, wellFormed, answerFor, fedFor, feedReader}
+use Rattle.line.specs.Line.{isPlain, event, Feeding, feedOf, startOf, readerOf, lineOf, wellFormed, answerFor, fedFor, feedReader}
 use Rattle.line.specs.Runs.{roomyRun}
 use Rattle.line.proofs.Forms.{taken-length, start-stays, padding}
 use Rattle.line.proofs.RunLaws.{Within, run-within, run-ends}
 use Rattle.line.proofs.ReaderLaws.{Well, well}
-use Rattle.line.proofs.FeedLaws.{later, inside, outside, feed-run}
+use Rattle.line.proofs.FeedLaws.{later, inside, feed-run}
 
 -- a feeding that ended with the byte it was given
 abbrev pub stopped : List ℕ → ℕ → ℕ → List ℕ → Outcome Record → ℕ → Feeding

@@ -1,8 +1,8 @@
 -- Laws of a reader: what a well-formed one gives, and what it answers. Assumes nothing.
 use mathlib.Core.Path.{_≡_, refl, ap, sym, _∙_}
-use mathlib.Core.Bool.{Bool, true, false, cond, _&&_}
+use mathlib.Core.Bool.{true, false, _&&_}
 use mathlib.Core.List.{List, [], _∷_, _++_}
-use Prim.Native.Nat.{ℕ, zero, suc, _+_, _-_, _%_, _^_, _≤_, _<_, min}
+use Prim.Native.Nat.{ℕ, _+_, _-_, _%_, _^_, _≤_, _<_}
 use native.Mathlib.Nat.{add-zero}
 use native.Mathlib.Omega.{arith}
 use lib.Dec.{eqb, leb}
@@ -13,7 +13,7 @@ use Rattle.refusals.proofs.Laws.{both}
 use Rattle.record.specs.declared.RecordAnswer.the-variants as answer
 use Rattle.line.specs.declared.Reader.{Reader}
 use Rattle.line.specs.declared.Heard.the-variants.{Nothing, Event, Refused}
-use Rattle.line.specs.Line.{Line, Feeding, event, feedOf, toldByEnd, ended, startOf, readerOf, lineOf, heardFor, isStarted, allZero, wellFormed, feedReader, endReader}
+use Rattle.line.specs.Line.{event, toldByEnd, startOf, readerOf, lineOf, isStarted, allZero, wellFormed, feedReader, endReader}
 use Rattle.line.proofs.Forms.{taken-length, padding}
 
 pub record Well (reader : Reader) : Type 0 where

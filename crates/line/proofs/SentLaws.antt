@@ -1,34 +1,27 @@
 -- Laws of what is sent: the body of a telegram is plain, and a telegram on the line is one event. Assumes nothing.
-use mathlib.Core.Path.{_≡_, refl, ap, sym, _∙_}
-use mathlib.Core.Bool.{Bool, true, false, cond, not, _&&_}
+use mathlib.Core.Path.{_≡_, refl, sym, _∙_}
+use mathlib.Core.Bool.{Bool, true, false, cond, not}
 use mathlib.Core.List.{List, [], _∷_, _++_, map, append-nil, append-assoc}
-use Prim.Native.Nat.{ℕ, suc, _+_, _-_, _%_, _^_, _≤_, _<_}
+use Prim.Native.Nat.{ℕ, suc, _+_, _-_, _%_, _≤_}
 use native.Mathlib.Nat.{add-zero}
 use native.Mathlib.Omega.{arith}
-use lib.Dec.{eqb, leb, ltb}
+use lib.Dec.{eqb, ltb}
 use lib.ListN.{length, getD, length-append}
 use borrow.Author.Tests.{ne-eqb, lt-leb, not-true}
-use Rattle.refusals.specs.Refusals.{done}
 use Rattle.refusals.proofs.Laws.{both}
 use Rattle.places.specs.Places.{Place, fixed, decimal, code, codeCharacter, byteAt, render}
 use Rattle.places.proofs.Rows.{soundPlace, sound}
 use Rattle.places.proofs.Rendering.{length-render}
 use Rattle.record.specs.declared.Record.{Record}
-use Rattle.record.specs.declared.RecordAnswer.the-variants as answer
-use Rattle.record.specs.Rule.{refusalOf}
 use Rattle.layouts.specs.Layouts.{rowOf, ownLayout}
 use Rattle.layouts.specs.Coding.{digitsOut}
 use Rattle.layouts.proofs.RowLaws.{row-sound, row-length}
-use Rattle.telegram.specs.Reading.{readOf}
-use Rattle.telegram.specs.Writing.{bodyBytes, telegramOf}
-use Rattle.telegram.proofs.BackAndForth.{written-reads-back}
+use Rattle.telegram.specs.Writing.{bodyBytes}
 use Rattle.line.specs.declared.Heard.{Heard}
-use Rattle.line.specs.declared.Heard.the-variants.{Event}
-use Rattle.line.specs.Line.{Line, event, startOf, answerFor, isPlain, allPlain}
+use Rattle.line.specs.Line.{Line, isPlain, allPlain}
 use Rattle.line.specs.Cuts.{eventsOf, lineAfter}
 use Rattle.line.specs.Demand.{noStx}
 use Rattle.line.proofs.FeedLaws.{inside, outside}
-use Rattle.line.proofs.CutLaws.{events-join, after-join}
 
 -- characters are plain
 plain-above : (byte : ℕ) → 4 ≤ byte → isPlain byte ≡ true

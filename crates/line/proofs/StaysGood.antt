@@ -1,16 +1,16 @@
 -- Good states stay good: what feed and end return for a well-formed state is well formed. Assumes nothing.
-use mathlib.Core.Path.{_≡_, refl, ap, sym, _∙_}
-use mathlib.Core.Bool.{Bool, true, false, cond, not, _&&_}
+use mathlib.Core.Path.{_≡_, refl}
+use mathlib.Core.Bool.{Bool, true, false, cond}
 use mathlib.Core.List.{List, [], _∷_, _++_}
-use Prim.Native.Nat.{ℕ, suc, _+_, _-_, _≤_, _<_, _^_}
+use Prim.Native.Nat.{ℕ, _+_, _-_, _≤_}
 use native.Mathlib.Omega.{arith}
 use lib.Dec.{eqb, leb}
-use lib.ListN.{length, take}
+use lib.ListN.{length}
 use Rattle.refusals.proofs.Laws.{both}
 use Rattle.line.specs.declared.Reader.{Reader}
-use Rattle.line.specs.Line.{Line, Told, nothing, event, Feeding, stopOr, feedOf, heldAfter, toldBy, strayBy, step, readerOf, lineOf, isPlain, allPlain, isStarted, wellFormed, feedReader, endReader}
+use Rattle.line.specs.Line.{Line, Told, nothing, event, Feeding, stopOr, feedOf, heldAfter, toldBy, step, readerOf, lineOf, isPlain, allPlain, isStarted, wellFormed, feedReader, endReader}
 use Rattle.line.proofs.Forms.{taken-length}
-use Rattle.line.proofs.ReaderLaws.{Well, well}
+use Rattle.line.proofs.ReaderLaws.{well}
 use Rattle.line.proofs.Wraps.{held-fits, reader-well}
 
 -- a line whose reader is well formed

@@ -2,7 +2,7 @@
 use mathlib.Core.Path.{_≡_, refl, ap, sym, _∙_}
 use mathlib.Core.Bool.{Bool, true, false, cond, _&&_}
 use mathlib.Core.List.{List, [], _∷_, _++_}
-use Prim.Native.Nat.{ℕ, zero, suc, _+_, _-_, _%_, _^_, _≤_, _<_}
+use Prim.Native.Nat.{ℕ, zero, suc, _+_, _-_, _%_, _^_, _≤_}
 use native.Mathlib.Omega.{arith}
 use lib.Dec.{eqb, leb}
 use lib.ListN.{length, take, drop, replicate, length-append}
@@ -10,7 +10,7 @@ use lib.Seq.{take-append-seam, drop-append-seam}
 use borrow.Author.Tests.{eq-eqb, le-leb, leb-false}
 use Rattle.line.specs.declared.Heard.the-variants.{Nothing, Event}
 use Rattle.line.specs.Line.{answerFor, Line, Told, nothing, event, Feeding, stopOr, feedOf, heldAfter, toldBy, strayBy, step, startOf, readerOf, lineOf, isStarted, allZero, wellFormed, fedFor, feedReader}
-use Rattle.line.proofs.FeedLaws.{later, inside}
+use Rattle.line.proofs.FeedLaws.{inside}
 use Rattle.line.proofs.Inside.{reader-wraps}
 
 -- no byte makes a reader hold more than 24

@@ -2,7 +2,7 @@
 use native.Mathlib.Omega.{arith}
 use mathlib.Core.Path.{_≡_, sym}
 use mathlib.Core.List.{_∷_}
-use Prim.Native.Nat.{_+_, _-_, _%_, _^_}
+use Prim.Native.Nat.{_-_, _%_, _^_}
 use lib.ListN.{replicate}
 use Rattle.line.proofs.Forms.{start-is}
 use borrow.Author.Needs.{needs}

@@ -1,10 +1,10 @@
 use native.Mathlib.Omega.{arith}
-use mathlib.Core.Path.{_≡_, refl, ap, sym, _∙_}
+use mathlib.Core.Path.{refl, ap, _∙_}
 use mathlib.Core.List.{[], _∷_}
-use Prim.Native.Nat.{_+_, _-_, _<_, _≤_}
+use Prim.Native.Nat.{_+_, _-_}
 use lib.ListN.{length, take, drop, length-take, length-drop}
 use lib.Seq.{take-all}
-use Rattle.line.specs.Line.{feedOf, wellFormed, feedReader}
+use Rattle.line.specs.Line.{wellFormed, feedReader}
 use Rattle.line.proofs.RunLaws.{stray-ends}
 use Rattle.line.proofs.FeedLaws.{inside}
 use Rattle.line.proofs.Wraps.{reader-well, feed-reader, taken-fits}

@@ -4,9 +4,9 @@ use borrow.Author.Needs.{needs}
 use mathlib.Core.Path.{_≡_, refl, ap, sym, _∙_}
 use mathlib.Core.Bool.{_&&_}
 use Prim.Native.Nat.{_-_, _+_, _≤_}
-use lib.ListN.{length, take, drop, getD}
+use lib.ListN.{length, take, drop}
 use borrow.Author.Tests.{eq-eqb, ne-eqb, ltb-true, ltb-false, not-true, not-false}
-use Rattle.line.specs.Line.{allPlain, isStarted}
+use Rattle.line.specs.Line.{allPlain}
 use Rattle.line.proofs.Forms.{plain-step, plain-end, first-is}
 use Rattle.line.proofs.is_started.Statement.{statement}
 use Rattle.line.proofs.is_started.Tie as tie

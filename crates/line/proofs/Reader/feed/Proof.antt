@@ -1,9 +1,8 @@
 use native.Mathlib.Omega.{arith}
-use mathlib.Core.Path.{_≡_, refl, ap, sym, _∙_}
-use mathlib.Core.List.{[], _∷_}
+use mathlib.Core.Path.{_≡_, ap, sym, _∙_}
 use lib.ListN.{length, length-map}
 use borrow.Author.Tests.{not-true, not-false}
-use Rattle.line.specs.Line.{wellFormed, feedReader}
+use Rattle.line.specs.Line.{feedReader}
 use Rattle.line.proofs.ReaderLaws.{feed-refused, outside-back}
 use borrow.Author.Needs.{needs}
 use Rattle.line.proofs.Reader.feed.Statement.{statement}

@@ -1,10 +1,10 @@
 -- `line::judge::judge` meets its contract. The loop's invariant: the bytes copied so far.
 use native.Mathlib.Omega.{arith}
 use borrow.Author.Needs.{needs}
-use mathlib.Core.Path.{_≡_, refl, ap, sym, _∙_}
+use mathlib.Core.Path.{_≡_, refl, ap, _∙_}
 use mathlib.Core.Bool.{true}
 use Prim.Native.Nat.{_+_, _-_, _≤_}
-use lib.ListN.{length, length-set, take, drop, getD, set}
+use lib.ListN.{length, length-set, take, getD}
 use Rattle.telegram.specs.Reading.{readOf}
 use Rattle.line.proofs.Copies.{copy-step, closed}
 use Rattle.line.proofs.judge.judge.Statement.{statement}

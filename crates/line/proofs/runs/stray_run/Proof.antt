@@ -1,9 +1,9 @@
 -- `line::runs::stray_run` meets its contract. The loop's invariant: what was counted and what is left is the whole.
 use native.Mathlib.Omega.{arith}
-use mathlib.Core.Path.{_≡_, refl, ap, sym, _∙_}
+use mathlib.Core.Path.{_≡_, ap, _∙_}
 use mathlib.Core.Bool.{cond}
 use Prim.Native.Nat.{suc, _+_, _-_}
-use lib.ListN.{length, drop, getD}
+use lib.ListN.{length, drop}
 use borrow.Author.Tests.{eq-eqb, ne-eqb}
 use Rattle.line.specs.Runs.{strayRun}
 use Rattle.line.proofs.RunLaws.{stray-end, stray-byte}
