@@ -32,7 +32,7 @@ feed-splits line (byte ∷ piece) =
     split-by (toldBy (line .held) byte) (startOf line) byte (step line byte) (feedOf (step line byte) piece) piece (feed-splits (step line byte) piece)
 
 -- any number of calls that uses a piece up
-abbrev after-call : ℕ → Fed → List ℕ → Calls
+abbrev pub after-call : ℕ → Fed → List ℕ → Calls
 after-call n fed piece =
     record {
       reader = calls n (fed .reader) (drop (fed .taken) piece) .reader;
@@ -40,10 +40,10 @@ after-call n fed piece =
       heard = heardThen (fed .heard) (calls n (fed .reader) (drop (fed .taken) piece) .heard);
     }
 
-first-call : (n : ℕ) (line : Line) → Good line → (piece : List ℕ) → calls (suc n) (readerOf line) piece ≡ after-call n (fedFor (feedOf line piece)) piece
+pub first-call : (n : ℕ) (line : Line) → Good line → (piece : List ℕ) → calls (suc n) (readerOf line) piece ≡ after-call n (fedFor (feedOf line piece)) piece
 first-call n line good piece = ap (λ fed. after-call n fed piece) (feed-reader (line .held) (line .fed) (line .stray) (good .fits) (good .started) piece)
 
-calls-tell : (n : ℕ) (line : Line) → Good line → (piece : List ℕ) → calls n (readerOf line) piece .rest ≡ []
+pub calls-tell : (n : ℕ) (line : Line) → Good line → (piece : List ℕ) → calls n (readerOf line) piece .rest ≡ []
     → (calls n (readerOf line) piece .heard ≡ eventsOf line piece) × (calls n (readerOf line) piece .reader ≡ readerOf (lineAfter line piece))
 calls-tell zero line good piece used = (ap (eventsOf line) (sym used), ap (λ rest. readerOf (lineAfter line rest)) (sym used))
 calls-tell (suc n) line good piece used =
@@ -100,7 +100,7 @@ some-by : (told : Told) (start : ℕ) (next : Line) (on : Feeding) → 0 < stopO
 some-by nothing start next on = omega arith
 some-by (event outcome size) start next on = omega arith
 
-shorter : (line : Line) (piece : List ℕ) (n : ℕ) → length piece ≤ suc n → length (drop (feedOf line piece .taken) piece) ≤ n
+pub shorter : (line : Line) (piece : List ℕ) (n : ℕ) → length piece ≤ suc n → length (drop (feedOf line piece .taken) piece) ≤ n
 shorter line [] n h = omega arith
 shorter line (byte ∷ piece) n h =
     omega (

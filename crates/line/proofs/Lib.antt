@@ -7,7 +7,9 @@ pub mod Inside
 pub mod Wraps
 pub mod Strays
 pub mod StaysGood
+pub mod PieceLaws
 pub mod CutLaws
+pub mod UsesUp
 pub mod AccountLaws
 pub mod SentLaws
 pub mod DemandLaws

@@ -1,5 +1,6 @@
 // The line: a reader that is fed piece by piece and loses no telegram, wherever a piece ends.
 mod judge;
+pub mod pieces;
 mod runs;
 
 use record::RecordAnswer;
