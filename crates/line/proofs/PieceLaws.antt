@@ -57,16 +57,16 @@ at-first passing =
 -- no event more
 pub no-more : (slots : List Slot) (count taken n refusal : ℕ) (reader : Reader) → Empty slots count
     → behind slots count taken (record { events = []; taken = n; reader = reader; refusal = refusal })
-      ≡ record { slots = slots; count = count; reader = reader; taken = taken + n; refusal = refusal }
+    ≡ record { slots = slots; count = count; reader = reader; taken = taken + n; refusal = refusal }
 no-more slots count taken n refusal reader empty =
     let whole : take count slots ++ replicate (32 - (count + 0)) (slotOf Nothing) ≡ slots =
-      ap (λ k. take count slots ++ replicate (32 - k) (slotOf Nothing)) (add-zero count) ∙ ap (_++_ (take count slots)) (sym empty) ∙ take-append-drop count slots in
+    ap (λ k. take count slots ++ replicate (32 - k) (slotOf Nothing)) (add-zero count) ∙ ap (_++_ (take count slots)) (sym empty) ∙ take-append-drop count slots in
     λ i. record { slots = whole i; count = add-zero count i; reader = reader; taken = taken + n; refusal = refusal }
 
 -- one event more
 pub one-more : (slots : List Slot) (count taken : ℕ) (heard : Heard) (fed : Fed) (later : Passing) → count < length slots
     → behind slots count taken (record { events = heard ∷ later .events; taken = fed .taken + later .taken; reader = later .reader; refusal = later .refusal })
-      ≡ behind (set slots count (slotOf heard)) (count + 1) (taken + fed .taken) later
+    ≡ behind (set slots count (slotOf heard)) (count + 1) (taken + fed .taken) later
 one-more slots count taken heard fed later room =
     let rest : ℕ → List Slot = λ k. replicate (32 - k) (slotOf Nothing) in
     let more = map slotOf (later .events) in
@@ -74,9 +74,9 @@ one-more slots count taken heard fed later room =
     let size : count + length (heard ∷ later .events) ≡ count + 1 + length (later .events) = omega arith in
     let taken-all : taken + (fed .taken + later .taken) ≡ taken + fed .taken + later .taken = omega arith in
     let slots-are : take count slots ++ (slotOf heard ∷ more ++ rest (count + length (heard ∷ later .events)))
-          ≡ take (count + 1) (set slots count (slotOf heard)) ++ (more ++ rest (count + 1 + length (later .events))) =
-      sym (append-assoc (take count slots) (slotOf heard ∷ []) (more ++ rest (count + length (heard ∷ later .events))))
-      ∙ (λ i. sym laid i ++ (more ++ rest (size i))) in
+    ≡ take (count + 1) (set slots count (slotOf heard)) ++ (more ++ rest (count + 1 + length (later .events))) =
+    sym (append-assoc (take count slots) (slotOf heard ∷ []) (more ++ rest (count + length (heard ∷ later .events))))
+    ∙ (λ i. sym laid i ++ (more ++ rest (size i))) in
     λ i. record { slots = slots-are i; count = size i; reader = later .reader; taken = taken-all i; refusal = later .refusal }
 
 pub still-empty : (slots : List Slot) (count : ℕ) (slot : Slot) → count < 32 → Empty slots count → Empty (set slots count slot) (count + 1)

@@ -36,7 +36,7 @@ AsCalled passing called piece =
 
 called-by : (told : Told) (at taken : ℕ) (next : Reader) (later : Passing) (n : ℕ) (piece : List ℕ) → AsCalled later (calls n next (drop taken piece)) (drop taken piece)
     → let fed : Fed = record { reader = next; taken = taken; heard = heardFor told at } in
-      AsCalled (passOn (heardFor told at) fed later) (after-call (callsAfter (heardFor told at) n) fed piece) piece
+    AsCalled (passOn (heardFor told at) fed later) (after-call (callsAfter (heardFor told at) n) fed piece) piece
 called-by nothing at taken next later n piece on = (refl, refl, refl, refl)
 called-by (event outcome size) at taken next later n piece on =
     (ap (_∷_ (Event (answerFor outcome) at size)) (on .0), on .1, sym (drop-drop (later .taken) taken piece) ∙ on .2, on .3)
@@ -45,8 +45,8 @@ called-by (event outcome size) at taken next later n piece on =
 abbrev After : ℕ → List ℕ → Fed → Type 0
 After room piece fed =
     AsCalled (passOn (fed .heard) fed (passing room (fed .reader) (drop (fed .taken) piece)))
-        (after-call (callsAfter (fed .heard) (callsMade room (fed .reader) (drop (fed .taken) piece))) fed piece)
-        piece
+    (after-call (callsAfter (fed .heard) (callsMade room (fed .reader) (drop (fed .taken) piece))) fed piece)
+    piece
 
 pub is-a-loop : (room : ℕ) (line : Line) → Good line → (piece : List ℕ)
     → AsCalled (passing room (readerOf line) piece) (calls (callsMade room (readerOf line) piece) (readerOf line) piece) piece

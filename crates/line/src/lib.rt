@@ -13,6 +13,7 @@ use std::num::wrapping_sub_u32;
 use telegram::ETX;
 use telegram::STX;
 ghost use mathlib.Core.Path.{_≡_};
+ghost use Rattle.line.specs.declared.Heard.the-variants.{Refused};
 ghost use Rattle.line.specs.Line.{freshReader, wellFormed, readerOf, feedReader, endReader, isStarted, allZero};
 ghost use mathlib.Core.Bool.{true};
 ghost use mathlib.Core.List.{[], _∷_};
@@ -117,6 +118,17 @@ fn begun(fed: u32, stray: u32) -> Reader
     }
 }
 
+// A state that is not well formed comes back as it was.
+fn refused(state: Reader) -> Fed
+    ensures { λ r. ⌜ r ≡ record { reader = state; taken = 0; heard = Refused 15 } ⌝ }
+{
+    Fed {
+        reader: state,
+        taken: 0,
+        heard: Heard::Refused(STATE_ILL_FORMED),
+    }
+}
+
 // Inside a telegram: plain bytes are held at once, and the byte behind them tells.
 fn feed_inside(reader: Reader, piece: &[u8]) -> Fed
     requires { ⌜ (wellFormed reader ≡ true) × (0 < reader .len) ⌝ }
@@ -148,10 +160,11 @@ fn feed_inside(reader: Reader, piece: &[u8]) -> Fed
     let size = len as u32;
     if byte == ETX {
         let answer = judge::judge(all, len);
+        let whole = size + 1;
         return Fed {
             reader: outside(fed, stray),
             taken: taken,
-            heard: Heard::Event(answer, start, size + 1),
+            heard: Heard::Event(answer, start, whole),
         };
     }
     if byte == STX {
@@ -229,11 +242,7 @@ impl Reader {
         ensures { λ r. ⌜ r ≡ feedReader self (now (piece .entry)) ⌝ }
     {
         if !self.is_well_formed() {
-            return Fed {
-                reader: self,
-                taken: 0,
-                heard: Heard::Refused(STATE_ILL_FORMED),
-            };
+            return refused(self);
         }
         if self.len == 0 {
             return feed_outside(self.fed, self.stray, piece);

@@ -89,18 +89,18 @@ cast-size c =
 judge-requires : tie.Need-judge-requires
 judge-requires c κs = search needs
 
+add-whole : tie.Need-add-whole
+add-whole c =
+    let reader = c .before .before .before .before .before .before .before .before .before .before .args .reader in
+    let piece = c .before .before .before .before .before .before .before .before .before .before .args .piece .now in
+    let size : length (reader .held) ≡ 24 = sym (length-map (reader .held) (λ x. x)) ∙ c .before .before .before .before .before .before .before .before .before .before .good .0 .1 .1 .0 .1 .0 .1 in
+    let good = c .before .before .before .before .before .before .before .before .before .before .pre .0 in
+    let some = c .before .before .before .before .before .before .before .before .before .before .pre .1 in
+    let n = c .before .before .before .before .before .before .before .gather .ensures .0 in
+    omega (arith, n, added-fits reader piece size good some .0, added-fits reader piece size good some .1, well reader good .fits)
+
 outside-requires : tie.Need-outside-requires
 outside-requires c κs = search needs
-
-add-t23 : tie.Need-add-t23
-add-t23 c =
-    let reader = c .before .before .before .before .before .before .before .before .before .before .before .args .reader in
-    let piece = c .before .before .before .before .before .before .before .before .before .before .before .args .piece .now in
-    let size : length (reader .held) ≡ 24 = sym (length-map (reader .held) (λ x. x)) ∙ c .before .before .before .before .before .before .before .before .before .before .before .good .0 .1 .1 .0 .1 .0 .1 in
-    let good = c .before .before .before .before .before .before .before .before .before .before .before .pre .0 in
-    let some = c .before .before .before .before .before .before .before .before .before .before .before .pre .1 in
-    let n = c .before .before .before .before .before .before .before .before .gather .ensures .0 in
-    omega (arith, n, added-fits reader piece size good some .0, added-fits reader piece size good some .1, well reader good .fits)
 
 returns-2 : tie.Need-returns-2
 returns-2 c =
@@ -174,8 +174,8 @@ feed-inside-spec =
     moved-requires-2
     cast-size
     judge-requires
+    add-whole
     outside-requires
-    add-t23
     returns-2
     begun-requires
     returns-3

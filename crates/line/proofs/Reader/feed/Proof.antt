@@ -11,8 +11,13 @@ use Rattle.line.proofs.Reader.feed.Tie as tie
 is-well-formed-requires : tie.Need-is-well-formed-requires
 is-well-formed-requires c κs = search needs
 
+refused-requires : tie.Need-refused-requires
+refused-requires c κs = search needs
+
 returns : tie.Need-returns
-returns c = sym (feed-refused (c .before .before .before .args .self) (c .before .before .before .args .piece .now) (sym (c .before .is-well-formed .ensures) ∙ not-true _ (c .if1 .taken)))
+returns c =
+    let start = c .before .before .before .before in
+    c .refused .ensures ∙ sym (feed-refused (start .args .self) (start .args .piece .now) (sym (c .before .before .is-well-formed .ensures) ∙ not-true _ (c .before .if1 .taken)))
 
 feed-outside-requires : tie.Need-feed-outside-requires
 feed-outside-requires c κs = search needs
@@ -36,6 +41,7 @@ feed-spec =
     tie.close
     (tie.spec
     is-well-formed-requires
+    refused-requires
     returns
     feed-outside-requires
     returns-2

@@ -56,7 +56,7 @@ returns c =
     let l = c .before .before .before .before .before .before .before .loop in
     let fed = c .before .before .before .before .feed .result in
     let piece = c .before .before .before .before .before .before .before .before .before .args .piece .now in
-    ends-with (passedFor (passing 32 (c .before .before .before .before .before .before .before .before .before .args .reader) piece)) (l .slots) (l .count) (l .taken) (l .next) piece fed (c .before .before .before .before .before .before .loop-test .taken) (l .inv .4) (l .inv .5) (c .before .before .before .before .feed .ensures)
+    ends-with (passedFor (passing 32 (c .before .before .before .before .before .before .before .before .before .args .reader) piece)) (l .slots) (l .count) (l .taken) (l .next) piece fed (omega (arith, c .before .before .before .before .before .before .loop-test .taken)) (l .inv .4) (l .inv .5) (c .before .before .before .before .feed .ensures)
     0 (λ on. ap (λ h. passOn h fed on) (c .enum-told .given .1))
 
 -- src/pieces.rt:49:28
@@ -69,7 +69,7 @@ returns-2 c =
     let l = c .before .before .before .before .before .before .before .before .loop in
     let fed = c .before .before .before .before .before .feed .result in
     let piece = c .before .before .before .before .before .before .before .before .before .before .args .piece .now in
-    ends-with (passedFor (passing 32 (c .before .before .before .before .before .before .before .before .before .before .args .reader) piece)) (l .slots) (l .count) (l .taken) (l .next) piece fed (c .before .before .before .before .before .before .before .loop-test .taken) (l .inv .4) (l .inv .5) (c .before .before .before .before .before .feed .ensures)
+    ends-with (passedFor (passing 32 (c .before .before .before .before .before .before .before .before .before .before .args .reader) piece)) (l .slots) (l .count) (l .taken) (l .next) piece fed (omega (arith, c .before .before .before .before .before .before .before .loop-test .taken)) (l .inv .4) (l .inv .5) (c .before .before .before .before .before .feed .ensures)
     _ (λ on. ap (λ h. passOn h fed on) (c .before .heard .given .1))
 
 -- src/pieces.rt:59:32
@@ -82,7 +82,7 @@ mul-slots c = omega (arith, c .before .before .before .before .before .before .l
 
 -- src/pieces.rt:59:17
 array-set-from-slots : tie.Need-array-set-from-slots Inv-loop μ-loop
-array-set-from-slots c = c .before .before .before .before .before .before .loop-test .taken
+array-set-from-slots c = omega (arith, c .before .before .before .before .before .before .loop-test .taken)
 
 -- src/pieces.rt:60:17
 add-count : tie.Need-add-count Inv-loop μ-loop
@@ -99,7 +99,7 @@ loop-again c =
     let fed = c .before .before .before .before .feed .result in
     let piece = c .before .before .before .before .before .before .before .before .before .args .piece .now in
     let rest = take (length piece - l .taken) (drop (l .taken) piece) in
-    let room = c .before .before .before .before .before .before .loop-test .taken in (
+    let room : l .count < 32 = omega (arith, c .before .before .before .before .before .before .loop-test .taken) in (
       refl,
       omega (arith, ap (λ f. f .taken) (c .before .before .before .before .feed .ensures), feed-fits (l .next) rest, length-take (length piece - l .taken) (drop (l .taken) piece), length-drop (l .taken) piece, l .inv .1),
       omega (arith, room),
