@@ -1,9 +1,11 @@
-// Work to be measured, chosen by the first byte of standard input: the rest is 6021 telegrams of 18 bytes each.
-// r reads each of them; w writes the record of each anew. It prints how often that went well.
+// Work to be measured, chosen by the first byte of standard input. The rest is for r and w 6021 telegrams of 18 bytes each, and
+// for l any line: r reads each telegram, w writes the record of each anew, l feeds the line to a reader.
+// It prints how often that went well, and of a line how many events it has.
 use calendar::date::Date;
 use calendar::time::Time;
 use libc::STDIN_FILENO;
 use libc::STDOUT_FILENO;
+use line::Reader;
 use record::DatedLayout;
 use record::Reception;
 use record::Record;
@@ -91,13 +93,39 @@ fn each(mode: u8, data: &[u8]) -> u64 {
     good
 }
 
+// Uses a line up, and counts its events.
+fn events(data: &[u8]) -> u64 {
+    let length = data.len();
+    let mut reader = Reader::fresh();
+    let mut heard: u64 = 0;
+    let mut at: usize = 0;
+    while at < length {
+        let passed = line::pieces::use_up(reader, &data[at..length]);
+        let taken = passed.taken;
+        if taken == 0 {
+            return heard;
+        }
+        heard = std::num::wrapping_add_u64(heard, passed.count as u64);
+        reader = passed.reader;
+        at += taken;
+    }
+    heard
+}
+
+fn work(mode: u8, data: &[u8]) -> u64 {
+    if mode == b'l' {
+        return events(data);
+    }
+    each(mode, data)
+}
+
 fn main() {
     let mut input = io::large_buffer();
     let length = io::read_full(STDIN_FILENO, &mut input);
     if length == 0 {
         return;
     }
-    let good = each(input[0], &input[1..length]);
+    let good = work(input[0], &input[1..length]);
     io::print_decimal(STDOUT_FILENO, good);
     io::write_all(STDOUT_FILENO, b"\n");
 }

@@ -6,7 +6,7 @@ use Prim.Native.Nat.{ℕ, zero, suc, _+_, _-_, _≤_, _<_}
 use native.Mathlib.Nat.{add-zero, zero-add}
 use native.Mathlib.Numerals.{add-one}
 use native.Mathlib.Omega.{arith}
-use lib.ListN.{length, take, drop, set, replicate, take-append-drop, length-drop}
+use lib.ListN.{length, take, drop, set, replicate, take-append-drop, length-take, length-drop}
 use lib.Seq.{take-all, take-suc-set, drop-set-lt, drop-drop}
 use Rattle.record.specs.declared.RecordAnswer.{RecordAnswer}
 use Rattle.line.specs.declared.Reader.{Reader}
@@ -126,3 +126,34 @@ full-ends slots count taken reader rest full empty =
     let none : 32 - count ≡ 0 = omega arith in
     sym (no-more slots count taken 0 0 reader empty ∙ (λ i. record { slots = slots; count = count; reader = reader; taken = add-zero taken i; refusal = 0 }))
     ∙ ap (λ n. behind slots count taken (passing n reader rest)) (sym none)
+
+-- no more is taken than there is, and no more is handed on than there is room for
+fits-by : (heard : Heard) (fed : Fed) (later : Passing) (room size : ℕ) → fed .taken + later .taken ≤ size → length (later .events) ≤ room
+    → (passOn heard fed later .taken ≤ size) × (length (passOn heard fed later .events) ≤ suc room)
+fits-by Nothing fed later room size t e = (omega (arith, t), omega arith)
+fits-by (Event answer start count) fed later room size t e = (t, omega (arith, e))
+fits-by (Refused number) fed later room size t e = (omega (arith, t), omega arith)
+
+pub passing-fits : (room : ℕ) (reader : Reader) (piece : List ℕ)
+    → (passing room reader piece .taken ≤ length piece) × (length (passing room reader piece .events) ≤ room)
+unfolding passing
+passing-fits zero reader piece = (omega arith, omega arith)
+passing-fits (suc room) reader piece =
+    let fed = feedReader reader piece in
+    let on = passing-fits room (fed .reader) (drop (fed .taken) piece) in
+    fits-by (fed .heard) fed (passing room (fed .reader) (drop (fed .taken) piece)) room (length piece)
+    (omega (arith, on .0, length-drop (fed .taken) piece, feed-fits reader piece))
+    (on .1)
+
+-- the same of the unread end of a piece: what is taken of it ends in the piece
+pub end-fits : (reader : Reader) (whole : List ℕ) (at : ℕ) (passed : Passed) → at ≤ length whole
+    → passed ≡ passedFor (passing 32 reader (take (length whole - at) (drop at whole))) → at + passed .taken ≤ length whole
+end-fits reader whole at passed within is =
+    let rest = take (length whole - at) (drop at whole) in
+    omega (
+      arith,
+      ap (λ p. p .taken) is,
+      passing-fits 32 reader rest .0,
+      length-take (length whole - at) (drop at whole),
+      length-drop at whole,
+    )
