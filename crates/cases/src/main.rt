@@ -1,110 +1,37 @@
 // Runs cases from standard input against the entry points, and prints each outcome as a line of numbers.
-// A case is one letter, a length, and that many bytes:
+// A case is one letter, a length, and that many bytes; `inputs` says how they are read and `outputs` how outcomes are printed.
 //   R or r   reads the bytes as one telegram, with or without control characters
-// A refusal is printed as its number. A record is printed as 0, its layout, and its fields in the order of their declaration.
-use calendar::date::Date;
-use calendar::time::Time;
+//   W        writes one telegram: a choice, the buffer's length, a record
+//   S        writes several one behind another: a choice, the buffer's length, records
+//   N        the next second of a record
+//   U        the UTC seconds of a record
+//   D        the day number of a date
+//   d        the date of a day number
+//   F        feeds a reader: its state, a piece
+//   E        ends a line: the reader's state
+mod inputs;
+mod lines;
+mod outputs;
+mod records;
+mod telegrams;
+
 use libc::STDIN_FILENO;
-use libc::STDOUT_FILENO;
-use record::DatedLayout;
-use record::Reception;
-use record::Record;
-use record::RecordAnswer;
-use record::Status;
-use record::TimeLayout;
-
-fn print(n: u64) {
-    io::print_decimal(STDOUT_FILENO, n);
-    io::write_all(STDOUT_FILENO, b" ");
-}
-
-fn end_line() {
-    io::write_all(STDOUT_FILENO, b"\n");
-}
-
-fn flag(on: bool) -> u64 {
-    if on {
-        return 1;
-    }
-    0
-}
-
-fn layout_number(layout: DatedLayout) -> u64 {
-    match layout {
-        DatedLayout::L6021 => 6021,
-        DatedLayout::L2000 => 2000,
-        DatedLayout::L5500 => 5500,
-        DatedLayout::L5050 => 5050,
-    }
-}
-
-// The time-only layouts are printed with a 1 in front.
-fn time_layout_number(layout: TimeLayout) -> u64 {
-    match layout {
-        TimeLayout::T6021 => 16021,
-        TimeLayout::T5500 => 15500,
-        TimeLayout::T5050 => 15050,
-    }
-}
-
-fn reception_number(reception: Reception) -> u64 {
-    match reception {
-        Reception::Invalid => 0,
-        Reception::Crystal => 1,
-        Reception::Radio => 2,
-        Reception::High => 3,
-    }
-}
-
-fn print_status(status: Status) {
-    let reception = status.reception;
-    print(reception_number(reception));
-    print(flag(status.daylight));
-    print(flag(status.utc));
-    print(flag(status.announced));
-}
-
-fn print_date(date: Date) {
-    print(date.year as u64);
-    print(date.month as u64);
-    print(date.day as u64);
-}
-
-fn print_time(time: Time) {
-    print(time.hour as u64);
-    print(time.minute as u64);
-    print(time.second as u64);
-}
-
-fn print_record(rec: Record) {
-    match rec {
-        Record::Dated(layout, status, weekday, date, time) => {
-            print(layout_number(layout));
-            print_status(status);
-            print(weekday as u64);
-            print_date(date);
-            print_time(time);
-        }
-        Record::TimeOnly(layout, time) => {
-            print(time_layout_number(layout));
-            print_time(time);
-        }
-    }
-}
-
-fn print_answer(answer: RecordAnswer) {
-    match answer {
-        RecordAnswer::Good(rec) => {
-            print(0);
-            print_record(rec);
-        }
-        RecordAnswer::Refused(number) => print(number as u64),
-    }
-}
 
 fn run(letter: u8, bytes: &[u8]) {
-    print_answer(telegram::read::read(bytes, letter == b'R'));
-    end_line();
+    match letter {
+        b'R' => telegrams::reads(bytes, true),
+        b'r' => telegrams::reads(bytes, false),
+        b'W' => telegrams::writes(bytes),
+        b'S' => telegrams::writes_several(bytes),
+        b'N' => records::next_second(bytes),
+        b'U' => records::utc_seconds(bytes),
+        b'D' => records::day_number(bytes),
+        b'd' => records::date(bytes),
+        b'F' => lines::feeds(bytes),
+        b'E' => lines::ends(bytes),
+        _ => {}
+    }
+    outputs::end_line();
 }
 
 // Fills the first bytes of a buffer from standard input; answers whether there were so many.

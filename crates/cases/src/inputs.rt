@@ -1,0 +1,153 @@
+// How the bytes of a case are read. A byte that is not there is 0, and a number that names nothing names the first.
+use calendar::date::Date;
+use calendar::time::Time;
+use line::Reader;
+use record::DatedLayout;
+use record::Reception;
+use record::Record;
+use record::Status;
+use record::TimeLayout;
+use telegram::write::Choice;
+use telegram::write::Setting;
+
+pub fn byte(bytes: &[u8], at: usize) -> u8 {
+    if at < bytes.len() {
+        return bytes[at];
+    }
+    0
+}
+
+fn flag(bytes: &[u8], at: usize) -> bool {
+    byte(bytes, at) != 0
+}
+
+fn joined(high: u8, low: u8) -> u16 {
+    256 * (high as u16) + low as u16
+}
+
+fn joined_32(high: u16, low: u16) -> u32 {
+    65536 * (high as u32) + low as u32
+}
+
+// Two bytes, the high one first.
+fn number_16(bytes: &[u8]) -> u16 {
+    joined(byte(bytes, 0), byte(bytes, 1))
+}
+
+// Four bytes, the highest first.
+pub fn number_32(bytes: &[u8]) -> u32 {
+    joined_32(number_16(bytes), number_16(behind(bytes, 2)))
+}
+
+// The bytes behind the first so many.
+pub fn behind<'a>(bytes: &'a [u8], count: usize) -> &'a [u8] {
+    let length = bytes.len();
+    if length < count {
+        return &bytes[length..];
+    }
+    &bytes[count..]
+}
+
+fn dated_layout(number: u8) -> DatedLayout {
+    match number {
+        1 => DatedLayout::L2000,
+        2 => DatedLayout::L5500,
+        3 => DatedLayout::L5050,
+        _ => DatedLayout::L6021,
+    }
+}
+
+fn time_layout(number: u8) -> TimeLayout {
+    match number {
+        5 => TimeLayout::T5500,
+        6 => TimeLayout::T5050,
+        _ => TimeLayout::T6021,
+    }
+}
+
+fn reception(number: u8) -> Reception {
+    match number {
+        1 => Reception::Crystal,
+        2 => Reception::Radio,
+        3 => Reception::High,
+        _ => Reception::Invalid,
+    }
+}
+
+fn time(bytes: &[u8]) -> Time {
+    Time {
+        hour: byte(bytes, 0),
+        minute: byte(bytes, 1),
+        second: byte(bytes, 2),
+    }
+}
+
+// A year of two bytes, a month, a day.
+pub fn date(bytes: &[u8]) -> Date {
+    Date {
+        year: number_16(bytes),
+        month: byte(bytes, 2),
+        day: byte(bytes, 3),
+    }
+}
+
+fn status(bytes: &[u8]) -> Status {
+    Status {
+        reception: reception(byte(bytes, 0)),
+        daylight: flag(bytes, 1),
+        utc: flag(bytes, 2),
+        announced: flag(bytes, 3),
+    }
+}
+
+// Thirteen bytes: layout (0 to 3 dated, 4 to 6 time-only), status, weekday, date, time.
+pub fn rec(bytes: &[u8]) -> Record {
+    let layout = byte(bytes, 0);
+    let time = time(behind(bytes, 10));
+    if 4 <= layout {
+        return Record::TimeOnly(time_layout(layout), time);
+    }
+    Record::Dated(
+        dated_layout(layout),
+        status(behind(bytes, 1)),
+        byte(bytes, 5),
+        date(behind(bytes, 6)),
+        time,
+    )
+}
+
+// 0 names no setting; else one less has the control characters in bit 0 and the advance in bit 1.
+pub fn choice(number: u8) -> Choice {
+    if number == 0 {
+        return Choice::Unnamed;
+    }
+    Choice::Named(Setting {
+        control: number == 2 || number == 4,
+        advance: 3 <= number,
+    })
+}
+
+fn held(bytes: &[u8]) -> [u8; 24] {
+    let mut held = [0u8; 24];
+    let mut at: usize = 0;
+    while at < 24 {
+        held[at] = byte(bytes, at);
+        at += 1;
+    }
+    held
+}
+
+fn wide(n: u8) -> usize {
+    n as usize
+}
+
+// 37 bytes: the places, how many are held, fed, stray, start.
+pub fn reader(bytes: &[u8]) -> Reader {
+    Reader {
+        held: held(bytes),
+        len: wide(byte(bytes, 24)),
+        fed: number_32(behind(bytes, 25)),
+        stray: number_32(behind(bytes, 29)),
+        start: number_32(behind(bytes, 33)),
+    }
+}

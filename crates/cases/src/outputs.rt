@@ -1,0 +1,140 @@
+// How an outcome is printed: numbers, each with a space behind it. A refusal is its number, and anything else is 0 and its values.
+use calendar::date::Date;
+use calendar::time::Time;
+use libc::STDOUT_FILENO;
+use line::Heard;
+use line::Reader;
+use record::DatedLayout;
+use record::Reception;
+use record::Record;
+use record::RecordAnswer;
+use record::Status;
+use record::TimeLayout;
+
+pub fn print(n: u64) {
+    io::print_decimal(STDOUT_FILENO, n);
+    io::write_all(STDOUT_FILENO, b" ");
+}
+
+pub fn end_line() {
+    io::write_all(STDOUT_FILENO, b"\n");
+}
+
+fn flag(on: bool) -> u64 {
+    if on {
+        return 1;
+    }
+    0
+}
+
+fn layout_number(layout: DatedLayout) -> u64 {
+    match layout {
+        DatedLayout::L6021 => 6021,
+        DatedLayout::L2000 => 2000,
+        DatedLayout::L5500 => 5500,
+        DatedLayout::L5050 => 5050,
+    }
+}
+
+// The time-only layouts are printed with a 1 in front.
+fn time_layout_number(layout: TimeLayout) -> u64 {
+    match layout {
+        TimeLayout::T6021 => 16021,
+        TimeLayout::T5500 => 15500,
+        TimeLayout::T5050 => 15050,
+    }
+}
+
+fn reception_number(reception: Reception) -> u64 {
+    match reception {
+        Reception::Invalid => 0,
+        Reception::Crystal => 1,
+        Reception::Radio => 2,
+        Reception::High => 3,
+    }
+}
+
+fn print_status(status: Status) {
+    let reception = status.reception;
+    print(reception_number(reception));
+    print(flag(status.daylight));
+    print(flag(status.utc));
+    print(flag(status.announced));
+}
+
+pub fn print_date(date: Date) {
+    print(date.year as u64);
+    print(date.month as u64);
+    print(date.day as u64);
+}
+
+fn print_time(time: Time) {
+    print(time.hour as u64);
+    print(time.minute as u64);
+    print(time.second as u64);
+}
+
+// A record: its layout, and its fields in the order of their declaration.
+pub fn print_record(rec: Record) {
+    match rec {
+        Record::Dated(layout, status, weekday, date, time) => {
+            print(layout_number(layout));
+            print_status(status);
+            print(weekday as u64);
+            print_date(date);
+            print_time(time);
+        }
+        Record::TimeOnly(layout, time) => {
+            print(time_layout_number(layout));
+            print_time(time);
+        }
+    }
+}
+
+pub fn print_answer(answer: RecordAnswer) {
+    match answer {
+        RecordAnswer::Good(rec) => {
+            print(0);
+            print_record(rec);
+        }
+        RecordAnswer::Refused(number) => print(number as u64),
+    }
+}
+
+fn print_byte(byte: u8) {
+    print(byte as u64);
+}
+
+pub fn print_bytes(bytes: &[u8]) {
+    let mut at: usize = 0;
+    while at < bytes.len() {
+        print_byte(bytes[at]);
+        at += 1;
+    }
+}
+
+// Nothing is 0; an event is 1, its position, its length and its outcome; a refused state is 2 and its number.
+pub fn print_heard(heard: Heard) {
+    match heard {
+        Heard::Nothing => print(0),
+        Heard::Event(answer, start, length) => {
+            print(1);
+            print(start as u64);
+            print(length as u64);
+            print_answer(answer);
+        }
+        Heard::Refused(number) => {
+            print(2);
+            print(number as u64);
+        }
+    }
+}
+
+pub fn print_reader(reader: Reader) {
+    let held = reader.held;
+    print_bytes(&held);
+    print(reader.len as u64);
+    print(reader.fed as u64);
+    print(reader.stray as u64);
+    print(reader.start as u64);
+}

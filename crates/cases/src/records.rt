@@ -1,0 +1,41 @@
+// Cases of records and dates.
+use super::inputs;
+use super::outputs;
+use calendar::date::DateAnswer;
+use calendar::date::DayAnswer;
+use record::utc::UtcAnswer;
+
+pub fn next_second(bytes: &[u8]) {
+    outputs::print_answer(record::next::next_second(inputs::rec(bytes)));
+}
+
+pub fn utc_seconds(bytes: &[u8]) {
+    match record::utc::utc_seconds(inputs::rec(bytes)) {
+        UtcAnswer::Utc(seconds) => {
+            outputs::print(0);
+            outputs::print(seconds.0 as u64);
+        }
+        UtcAnswer::Refused(number) => outputs::print(number as u64),
+    }
+}
+
+pub fn day_number(bytes: &[u8]) {
+    match calendar::date::day_number(inputs::date(bytes)) {
+        DayAnswer::Day(day) => {
+            outputs::print(0);
+            outputs::print(day as u64);
+            outputs::print(calendar::date::weekday(day) as u64);
+        }
+        DayAnswer::Refused(number) => outputs::print(number as u64),
+    }
+}
+
+pub fn date(bytes: &[u8]) {
+    match calendar::date::date_of(inputs::number_32(bytes)) {
+        DateAnswer::Found(date) => {
+            outputs::print(0);
+            outputs::print_date(date);
+        }
+        DateAnswer::Refused(number) => outputs::print(number as u64),
+    }
+}
