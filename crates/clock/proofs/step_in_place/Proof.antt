@@ -39,8 +39,8 @@ use denote.Triple.Table.{entered, cited}
 use denote.Triple.Walked.{says, Stays, stay-ref, walkOf, AllGo, goes-ref, Walks, ends-at, walked, walk-meets}
 use Rattle.clock.specs.declared.Clock.{Clock}
 use Rattle.clock.specs.declared.Stepped.{Stepped}
-use Rattle.clock.specs.declared.StepAnswer.{StepAnswer}
 use Rattle.clock.specs.Stepping.{stepOf}
+use Rattle.clock.proofs.Machine.{clockVal, answerVal, clock-is, answer-is}
 use Rattle.clock.proofs.Clock as T
 use Rattle.clock.proofs.Clock.Laws as T′
 use Rattle.clock.proofs.Stepped as S
@@ -58,24 +58,6 @@ use Rattle.clock.proofs.step_in_place.Code as code
 
 abbrev stayed : Stays (in-place.ended .signature .params) (in-place.ended .kept)
 stayed = (stay-ref (0 ∷ []) tt (plain (λ _. T.the-row)), tt)
-
--- machine values: of a clock, of an answer, and of the two together
-abbrev clockVal : Clock → Val
-clockVal = LL.val T.the-type T′.the-laws
-
-abbrev answerVal : StepAnswer → Val
-answerVal = EL.val N.the-type N′.the-laws
-
-abbrev steppedVal : Stepped → Val
-steppedVal = LL.val S.the-type S′.the-laws
-
--- what whoever holds what a step hands back knows of its two parts
-module _ (r : Stepped) (vs : List Val) (is : Is S.the-row r vs) where
-  clock-is : Is T.the-row (r .clock) (clockVal (r .clock) ∷ [])
-  clock-is = LL.owed S.the-type S′.the-laws r vs is .0
-
-  answer-is : Is N.the-row (r .answer) (answerVal (r .answer) ∷ [])
-  answer-is = LL.owed S.the-type S′.the-laws r vs is .1 .0
 
 module _ {M : Type 1} (𝓤 : URA M) (H : Heap 𝓤) (A : Atoms 𝓤) (at-mem : Memory → SProp 𝓤) (run : Routine → Fun 𝓤) where
   -- the contract that the proof cites
