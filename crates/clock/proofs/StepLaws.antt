@@ -1,7 +1,12 @@
 -- Laws of one step of the station clock. Assumes nothing.
 use mathlib.Core.Path.{_≡_, refl, ap, sym, _∙_}
-use Prim.Native.Nat.{ℕ}
-use Rattle.refusals.specs.Refusals.{Outcome, done, refused, unless, after}
+use mathlib.Core.Bool.{Bool, true, false, not, cond}
+use Prim.Native.Nat.{ℕ, zero, suc}
+use native.Mathlib.Omega.{arith}
+use Rattle.refusals.specs.Refusals.{_when_, _else_, Outcome, done, refused, unless, after}
+use Rattle.refusals.proofs.Laws.{was-done, else-assoc}
+use Rattle.calendar.specs.Calendar.{dayAfter}
+use Rattle.calendar.specs.TimeOfDay.{isLastSecond, timeAfter}
 use Rattle.calendar.specs.declared.date.Date.{Date}
 use Rattle.calendar.specs.declared.time.Time.{Time}
 use Rattle.record.specs.declared.DatedLayout.{DatedLayout}
@@ -9,11 +14,14 @@ use Rattle.record.specs.declared.TimeLayout.{TimeLayout}
 use Rattle.record.specs.declared.Status.{Status}
 use Rattle.record.specs.declared.Record.{Record}
 use Rattle.record.specs.declared.Record.the-variants.{Dated, TimeOnly}
-use Rattle.record.specs.Next.{nextSecondOf}
+use Rattle.record.specs.Rule.{refusalOf}
+use Rattle.record.specs.Next.{weekdayAfter, recordAfter, isLastOfCalendar, nextSecondOf}
 use Rattle.clock.specs.declared.Clock.{Clock}
 use Rattle.clock.specs.declared.StepAnswer.the-variants as answer
 use Rattle.clock.specs.declared.Stepped.{Stepped}
-use Rattle.clock.specs.Stepping.{clockSecond, withRecord, steppedBy, stepOf}
+use Rattle.clock.specs.Stepping.{carriesDate, clockSecond, withRecord, steppedBy, stepOf}
+use Rattle.clock.specs.Answers.{stepAnswer}
+use Rattle.clock.specs.Running.{dated, standing}
 
 -- The ways in which a step ends.
 module _ (clock : Clock) where
@@ -36,3 +44,69 @@ module _ (clock : Clock) where
       → record { clock = withRecord clock next; answer = answer.Stepped } ≡ stepOf clock
   unfolding clockSecond unless
   goes-on layout status weekday date time next is e = stepped-by (done next) (rw (e, is))
+
+-- "refused with 5 to 8, 12 or 14 it is unchanged"
+pub refused-is-unchanged : (clock : Clock) (number : ℕ) → stepOf clock .answer ≡ answer.Refused number → stepOf clock .clock ≡ clock
+unfolding stepOf
+refused-is-unchanged clock number e = go (clockSecond (clock .rec)) e
+  where
+    go : (outcome : Outcome Record) → steppedBy clock outcome .answer ≡ answer.Refused number → steppedBy clock outcome .clock ≡ clock
+    go (done next) e = let z : _≡_ {A = ℕ} 0 1 = cc in absurd (omega arith)
+    go (refused n) e = refl
+
+-- one refusal after another, told by the lowest of their numbers
+one-after-another : (a b : ℕ) (rec : Record)
+    → after (after (unless a rec) (λ next. unless b next)) (λ _. done tt) ≡ unless {A = Unit {0}} (a else b) tt
+unfolding unless
+one-after-another zero zero rec = refl
+one-after-another zero (suc b) rec = refl
+one-after-another (suc a) b rec = refl
+
+-- the number is the lowest that holds: 5 to 8 by the record's own rule, then 12, then 14
+pub lowest-first : (clock : Clock)
+    → stepAnswer (stepOf clock .answer)
+    ≡ unless (refusalOf (clock .rec) else 12 when isLastOfCalendar (clock .rec) else 14 when not (carriesDate (clock .rec))) tt
+unfolding stepOf clockSecond nextSecondOf
+lowest-first clock =
+    told (clockSecond (clock .rec))
+    ∙ one-after-another (refusalOf (clock .rec) else 12 when isLastOfCalendar (clock .rec)) (14 when not (carriesDate (clock .rec))) (recordAfter (clock .rec))
+    ∙ ap (λ n. unless n tt) (sym (else-assoc (refusalOf (clock .rec)) (12 when isLastOfCalendar (clock .rec)) (14 when not (carriesDate (clock .rec)))))
+  where
+    told : (outcome : Outcome Record) → stepAnswer (steppedBy clock outcome .answer) ≡ after outcome (λ _. done tt)
+    told (done next) = refl
+    told (refused n) = refl
+
+-- a clock's second is the record's next second
+pub second-is-next : (rec next : Record) → clockSecond rec ≡ done next → nextSecondOf rec ≡ done next
+unfolding clockSecond
+second-is-next rec next e = go (nextSecondOf rec) e
+  where
+    go : (outcome : Outcome Record) → after outcome (λ later. unless (14 when not (carriesDate rec)) later) ≡ done next → outcome ≡ done next
+    go (done later) e = ap done (was-done (14 when not (carriesDate rec)) later next e .1)
+    go (refused n) e = let z : _≡_ {A = ℕ} 0 1 = cc in absurd (omega arith)
+
+-- the next second of a record says the same beside its time, date and weekday
+standing-after : (rec : Record) → standing (recordAfter rec) ≡ standing rec
+standing-after (Dated layout status weekday date time) = go (isLastSecond time)
+  where
+    go : (last : Bool)
+        → standing (cond last (Dated layout status (weekdayAfter weekday) (dayAfter date) (timeAfter time)) (Dated layout status weekday date (timeAfter time)))
+        ≡ dated layout status
+    go true = refl
+    go false = refl
+standing-after (TimeOnly layout time) = refl
+
+standing-next : (rec next : Record) → nextSecondOf rec ≡ done next → standing next ≡ standing rec
+unfolding nextSecondOf
+standing-next rec next e =
+    let made = was-done (refusalOf rec else 12 when isLastOfCalendar rec) (recordAfter rec) next e in
+    ap standing (sym (made .1)) ∙ standing-after rec
+
+-- "stepping does not change the season", nor anything else of the status, nor the layout
+pub standing-stays : (clock : Clock) → standing (stepOf clock .clock .rec) ≡ standing (clock .rec)
+unfolding stepOf
+standing-stays clock = go (clockSecond (clock .rec)) refl
+  where
+    go : (outcome : Outcome Record) → clockSecond (clock .rec) ≡ outcome → standing (steppedBy clock outcome .clock .rec) ≡ standing (clock .rec)
+    go (done next) e = standing-next (clock .rec) next (second-is-next (clock .rec) next e)
+    go (refused n) e = refl

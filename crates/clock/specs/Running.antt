@@ -1,5 +1,5 @@
 -- Document 01, "Calendar, UTC and the station clock": a clock that runs, and what it keeps.
-use Prim.Native.Nat.{ℕ, zero, suc}
+use Prim.Native.Nat.{ℕ, zero, suc, _*_}
 use Rattle.record.specs.declared.DatedLayout.{DatedLayout}
 use Rattle.record.specs.declared.TimeLayout.{TimeLayout}
 use Rattle.record.specs.declared.Status.{Status}
@@ -13,7 +13,11 @@ unfoldable pub stepped : ℕ → Clock → Clock
 stepped zero clock = clock
 stepped (suc n) clock = stepOf (stepped n clock) .clock
 
--- "stepping does not change the season": what a record says beside its time, date and weekday
+-- the calendar 1980 to 2079: 36,525 days
+abbrev pub calendarSeconds : ℕ
+calendarSeconds = 36525 * 86400
+
+-- "stepping does not change the season": what a record says beside its time, date and weekday. The season stands in the status
 pub data Standing : Type 0 where
   dated : DatedLayout → Status → Standing
   timeOnly : TimeLayout → Standing

@@ -1,12 +1,10 @@
 -- Document 01, "Calendar, UTC and the station clock": one step of the station clock.
 use mathlib.Core.Bool.{Bool, true, false, not}
-use Prim.Native.Nat.{ℕ}
 use Rattle.refusals.specs.Refusals.{_when_, Outcome, done, refused, unless, after}
 use Rattle.record.specs.declared.Record.{Record}
 use Rattle.record.specs.declared.Record.the-variants.{Dated, TimeOnly}
 use Rattle.record.specs.Next.{nextSecondOf}
 use Rattle.clock.specs.declared.Clock.{Clock}
-use Rattle.clock.specs.declared.StepAnswer.{StepAnswer}
 use Rattle.clock.specs.declared.StepAnswer.the-variants as answer
 use Rattle.clock.specs.declared.Stepped.{Stepped}
 
