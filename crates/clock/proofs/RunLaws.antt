@@ -1,12 +1,12 @@
 -- Laws of a clock that runs: each step adds one second, local and UTC, up to the end of the calendar. Assumes nothing.
 use mathlib.Core.Path.{_≡_, refl, ap, sym, _∙_}
 use mathlib.Core.Bool.{Bool, true, false, _&&_}
-use Prim.Native.Nat.{ℕ, zero, suc, _+_, _-_, _*_, _<_, _≤_}
+use Prim.Native.Nat.{ℕ, zero, suc, _+_, _-_, _*_, _<_}
 use native.Mathlib.Omega.{arith}
-use lib.Dec.{ltb, eqb}
-use borrow.Author.Tests.{eqb-true, ltb-false, le-ltb}
-use Rattle.refusals.specs.Refusals.{_when_, done, refused, unless, after}
-use Rattle.refusals.proofs.Laws.{both, was-done, does, when-none}
+use lib.Dec.{eqb}
+use borrow.Author.Tests.{eqb-true}
+use Rattle.refusals.specs.Refusals.{done, refused, unless}
+use Rattle.refusals.proofs.Laws.{both, was-done, does}
 use Rattle.calendar.specs.Calendar.{monthLength, dayOf, isLastDay, dayAfter}
 use Rattle.calendar.specs.TimeOfDay.{secondsOf, isLastSecond}
 use Rattle.calendar.specs.declared.date.Date.{Date}
@@ -20,14 +20,14 @@ use Rattle.record.specs.declared.Record.{Record}
 use Rattle.record.specs.declared.Record.the-variants.{Dated, TimeOnly}
 use Rattle.record.specs.Rule.{datedRefusal}
 use Rattle.record.specs.Next.{recordAfter, isLastOfCalendar, nextSecondOf}
-use Rattle.record.specs.Utc.{seasonShift, localSeconds, toUtc, utcSeconds}
+use Rattle.record.specs.Utc.{localSeconds}
 use Rattle.record.proofs.RuleLaws.{good}
 use Rattle.record.proofs.NextLaws.{next-is-later}
 use Rattle.clock.specs.declared.Clock.{Clock}
 use Rattle.clock.specs.declared.StepAnswer.the-variants as answer
 use Rattle.clock.specs.Stepping.{stepOf}
-use Rattle.clock.specs.Running.{stepped, calendarSeconds, standing}
-use Rattle.clock.proofs.StepLaws.{second-refused, goes-on, standing-stays}
+use Rattle.clock.specs.Running.{stepped, calendarSeconds}
+use Rattle.clock.proofs.StepLaws.{second-refused, goes-on}
 
 -- The end of the calendar, by its day number and by its local second.
 last-day-is : (date : Date) → isLastDay date ≡ true → dayOf date ≡ 36524
@@ -153,40 +153,3 @@ module _ (clock : Clock) (l : ℕ) (local : localSeconds (clock .rec) ≡ done (
   pub no-step-refused : (n k : ℕ) → l + n < calendarSeconds → k < n → stepOf (stepped k clock) .answer ≡ answer.Stepped
   no-step-refused n k before within =
       step-adds-a-second (stepped k clock) (l + k) (steps-add-local-seconds k (omega arith)) (omega arith) .0
-
--- "stepping does not change the season", however often
-pub standing-stays-always : (n : ℕ) (clock : Clock) → standing (stepped n clock .rec) ≡ standing (clock .rec)
-unfolding stepped
-standing-stays-always zero clock = refl
-standing-stays-always (suc n) clock = standing-stays (stepped n clock) ∙ standing-stays-always n clock
-
--- UTC seconds go with local seconds while the status stays.
-shifted : (status : Status) (l u n : ℕ) → toUtc (record { 0 = l }) status ≡ done (record { 0 = u })
-    → toUtc (record { 0 = l + n }) status ≡ done (record { 0 = u + n })
-unfolding toUtc
-shifted status l u n e =
-    let told = was-done (12 when ltb l (seasonShift status)) (record { 0 = l - seasonShift status }) (record { 0 = u }) e in
-    let from : seasonShift status ≤ l = ltb-false _ _ (when-none 11 _ (told .0)) in
-    let at : l - seasonShift status ≡ u = ap (λ s. s .0) (told .1) in
-    let later : l + n - seasonShift status ≡ u + n = omega arith in
-    does _ (rw (le-ltb (l + n) (seasonShift status) (omega arith))) ∙ ap done (λ i. record { 0 = later i })
-
-utc-goes-along : (rec next : Record) (l u n : ℕ) → standing next ≡ standing rec → localSeconds rec ≡ done (record { 0 = l })
-    → localSeconds next ≡ done (record { 0 = l + n }) → utcSeconds rec ≡ done (record { 0 = u })
-    → utcSeconds next ≡ done (record { 0 = u + n })
-utc-goes-along (Dated layout status weekday date time) (Dated layout′ status′ weekday′ date′ time′) l u n same here later utc =
-    let kept : status′ ≡ status = cc in
-    ap (λ o. after o (λ local. toUtc local status′)) later
-    ∙ ap (toUtc (record { 0 = l + n })) kept
-    ∙ shifted status l u n (ap (λ o. after o (λ local. toUtc local status)) (sym here) ∙ utc)
-utc-goes-along (Dated layout status weekday date time) (TimeOnly layout′ time′) l u n same here later utc =
-    let z : _≡_ {A = ℕ} 0 1 = cc in absurd (omega arith)
-utc-goes-along (TimeOnly layout time) next l u n same here later utc = let z : _≡_ {A = ℕ} 0 1 = cc in absurd (omega arith)
-
--- n steps of a clock with a date that stays in the calendar add n UTC seconds
-pub steps-add-utc-seconds : (clock : Clock) (l u n : ℕ) → localSeconds (clock .rec) ≡ done (record { 0 = l })
-    → utcSeconds (clock .rec) ≡ done (record { 0 = u }) → l + n < calendarSeconds
-    → utcSeconds (stepped n clock .rec) ≡ done (record { 0 = u + n })
-steps-add-utc-seconds clock l u n local utc before =
-    utc-goes-along (clock .rec) (stepped n clock .rec) l u n (standing-stays-always n clock) local
-    (steps-add-local-seconds clock l local n before) utc

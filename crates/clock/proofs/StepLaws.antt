@@ -1,12 +1,10 @@
 -- Laws of one step of the station clock. Assumes nothing.
 use mathlib.Core.Path.{_≡_, refl, ap, sym, _∙_}
-use mathlib.Core.Bool.{Bool, true, false, not, cond}
+use mathlib.Core.Bool.{not}
 use Prim.Native.Nat.{ℕ, zero, suc}
 use native.Mathlib.Omega.{arith}
 use Rattle.refusals.specs.Refusals.{_when_, _else_, Outcome, done, refused, unless, after}
-use Rattle.refusals.proofs.Laws.{was-done, else-assoc}
-use Rattle.calendar.specs.Calendar.{dayAfter}
-use Rattle.calendar.specs.TimeOfDay.{isLastSecond, timeAfter}
+use Rattle.refusals.proofs.Laws.{else-assoc}
 use Rattle.calendar.specs.declared.date.Date.{Date}
 use Rattle.calendar.specs.declared.time.Time.{Time}
 use Rattle.record.specs.declared.DatedLayout.{DatedLayout}
@@ -15,13 +13,12 @@ use Rattle.record.specs.declared.Status.{Status}
 use Rattle.record.specs.declared.Record.{Record}
 use Rattle.record.specs.declared.Record.the-variants.{Dated, TimeOnly}
 use Rattle.record.specs.Rule.{refusalOf}
-use Rattle.record.specs.Next.{weekdayAfter, recordAfter, isLastOfCalendar, nextSecondOf}
+use Rattle.record.specs.Next.{recordAfter, isLastOfCalendar, nextSecondOf}
 use Rattle.clock.specs.declared.Clock.{Clock}
 use Rattle.clock.specs.declared.StepAnswer.the-variants as answer
 use Rattle.clock.specs.declared.Stepped.{Stepped}
 use Rattle.clock.specs.Stepping.{carriesDate, clockSecond, withRecord, steppedBy, stepOf}
 use Rattle.clock.specs.Answers.{stepAnswer}
-use Rattle.clock.specs.Running.{dated, standing}
 
 -- The ways in which a step ends.
 module _ (clock : Clock) where
@@ -75,38 +72,3 @@ lowest-first clock =
     told : (outcome : Outcome Record) → stepAnswer (steppedBy clock outcome .answer) ≡ after outcome (λ _. done tt)
     told (done next) = refl
     told (refused n) = refl
-
--- a clock's second is the record's next second
-pub second-is-next : (rec next : Record) → clockSecond rec ≡ done next → nextSecondOf rec ≡ done next
-unfolding clockSecond
-second-is-next rec next e = go (nextSecondOf rec) e
-  where
-    go : (outcome : Outcome Record) → after outcome (λ later. unless (14 when not (carriesDate rec)) later) ≡ done next → outcome ≡ done next
-    go (done later) e = ap done (was-done (14 when not (carriesDate rec)) later next e .1)
-    go (refused n) e = let z : _≡_ {A = ℕ} 0 1 = cc in absurd (omega arith)
-
--- the next second of a record says the same beside its time, date and weekday
-standing-after : (rec : Record) → standing (recordAfter rec) ≡ standing rec
-standing-after (Dated layout status weekday date time) = go (isLastSecond time)
-  where
-    go : (last : Bool)
-        → standing (cond last (Dated layout status (weekdayAfter weekday) (dayAfter date) (timeAfter time)) (Dated layout status weekday date (timeAfter time)))
-        ≡ dated layout status
-    go true = refl
-    go false = refl
-standing-after (TimeOnly layout time) = refl
-
-standing-next : (rec next : Record) → nextSecondOf rec ≡ done next → standing next ≡ standing rec
-unfolding nextSecondOf
-standing-next rec next e =
-    let made = was-done (refusalOf rec else 12 when isLastOfCalendar rec) (recordAfter rec) next e in
-    ap standing (sym (made .1)) ∙ standing-after rec
-
--- "stepping does not change the season", nor anything else of the status, nor the layout
-pub standing-stays : (clock : Clock) → standing (stepOf clock .clock .rec) ≡ standing (clock .rec)
-unfolding stepOf
-standing-stays clock = go (clockSecond (clock .rec)) refl
-  where
-    go : (outcome : Outcome Record) → clockSecond (clock .rec) ≡ outcome → standing (steppedBy clock outcome .clock .rec) ≡ standing (clock .rec)
-    go (done next) e = standing-next (clock .rec) next (second-is-next (clock .rec) next e)
-    go (refused n) e = refl

@@ -1,10 +1,6 @@
 // The station clock: a record that is stepped by one second, by value or where it stands.
-use calendar::date::Date;
-use calendar::time::Time;
-use record::DatedLayout;
 use record::Record;
 use record::RecordAnswer;
-use record::Status;
 use record::next::next_second;
 use refusals::NO_DATE;
 ghost use mathlib.Core.Path.{_≡_};
