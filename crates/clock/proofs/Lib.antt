@@ -1,0 +1,5 @@
+pub mod StepLaws
+pub mod RunLaws
+pub mod KeepLaws
+pub mod Whole
+pub mod Machine
