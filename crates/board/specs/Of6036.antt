@@ -42,18 +42,18 @@ fourthFor None = true
 fourthFor Even = true
 fourthFor Odd = false
 
--- the eight switches of a setting, from switch 1 on
-abbrev pub switchesFor : Parameter → List Bool
+-- the eight switches of a setting, from switch 1 on: UTC, data bits, parity in two, stop bits, baud in three
+unfoldable pub switchesFor : Parameter → List Bool
 switchesFor parameter =
     parameter .utc ∷ eqb (parameter .«data_bits») 8
     ∷ thirdFor (parameter .parity) ∷ fourthFor (parameter .parity)
     ∷ eqb (parameter .«stop_bits») 1
     ∷ firstAt (rowOf (parameter .baud)) ∷ secondAt (rowOf (parameter .baud)) ∷ thirdAt (rowOf (parameter .baud)) ∷ []
 
--- what the board offers: 7 or 8 data bits, 1 or 2 stop bits, one of the eight rates
+-- what the board offers: 8 or 7 data bits, 1 or 2 stop bits, one of the eight rates
 unfoldable pub offered : Parameter → Bool
 offered parameter =
-    (eqb (parameter .«data_bits») 7 || eqb (parameter .«data_bits») 8)
+    (eqb (parameter .«data_bits») 8 || eqb (parameter .«data_bits») 7)
     && ((eqb (parameter .«stop_bits») 1 || eqb (parameter .«stop_bits») 2)
     && ltb (rowOf (parameter .baud)) 8)
 

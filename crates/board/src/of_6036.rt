@@ -72,7 +72,7 @@ fn is_either(number: u8, one: u8, other: u8) -> bool
 fn is_offered(parameter: Parameter) -> bool
     ensures { λ r. ⌜ r ≡ offered parameter ⌝ }
 {
-    if !is_either(parameter.data_bits, 7, 8) {
+    if !is_either(parameter.data_bits, 8, 7) {
         return false;
     }
     if !is_either(parameter.stop_bits, 1, 2) {

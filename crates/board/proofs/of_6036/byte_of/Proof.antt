@@ -1,5 +1,6 @@
 -- `board::of_6036::byte_of` meets its contract.
 use native.Mathlib.Omega.{arith}
+use Rattle.board.specs.Of6036.{switchesFor}
 use borrow.Author.Needs.{needs}
 use Rattle.board.proofs.of_6036.byte_of.Statement.{statement}
 use Rattle.board.proofs.of_6036.byte_of.Tie as tie
@@ -35,6 +36,7 @@ add-result-4 : tie.Need-add-result-4
 add-result-4 c = search needs
 
 returns : tie.Need-returns
+unfolding switchesFor
 returns c = let rate = rw (c .before .row-of .ensures) at (c .rate-weight .ensures .0) in omega arith
 
 pub byte-of-spec : {M : Type 1} → statement M
