@@ -2,7 +2,7 @@
 use mathlib.Core.Path.{_≡_, refl, ap, _∙_}
 use mathlib.Core.Bool.{Bool, true, false, cond}
 use mathlib.Core.List.{List, [], _∷_}
-use Prim.Native.Nat.{ℕ, zero, suc, _+_, _≤_, _<_}
+use Prim.Native.Nat.{ℕ, suc, _+_, _<_}
 use native.Mathlib.Numerals.{add-one}
 use native.Mathlib.Omega.{arith}
 use lib.Dec.{eqb}
@@ -21,7 +21,7 @@ module _ (table : List ℕ) (baud row : ℕ) (inside : row < length table) where
   row-behind other = rw (add-one row, drop-cons table row 0 inside, ne-eqb _ _ other)
 
 -- a rate that stands in the table stands in its row
-pub stands : (table : List ℕ) (baud : ℕ) → rowIn table baud < length table → getD table (rowIn table baud) 0 ≡ baud
+stands : (table : List ℕ) (baud : ℕ) → rowIn table baud < length table → getD table (rowIn table baud) 0 ≡ baud
 stands [] baud inside = absurd (omega arith)
 stands (rate ∷ more) baud inside = go (eqb rate baud) refl inside (stands more baud)
   where

@@ -7,7 +7,9 @@ use native.Mathlib.Nat.{div-div-eq-div-mul, pow-succ', zero-div}
 use native.Mathlib.Omega.{arith}
 use lib.Dec.{eqb}
 use lib.ListN.{length, getD}
-use Rattle.board.specs.Switches.{bit, isOn, byteOf}
+use borrow.Author.Tests.{eqb-true}
+use Rattle.refusals.proofs.Tables.{below}
+use Rattle.board.specs.Switches.{bit, isOn, switch, byteOf, withSwitch4}
 
 -- a switch in front of others: it is the lowest bit, and half the byte is the others' byte
 module _ (others : ℕ) where
@@ -37,3 +39,8 @@ is-on (on ∷ more) (suc place) =
 pub byte-fits : (switches : List Bool) → byteOf switches < 2 ^ length switches
 byte-fits [] = omega arith
 byte-fits (on ∷ more) = rw (pow-succ' 2 (length more)) (fits (byteOf more) (2 ^ length more) (byte-fits more) on)
+
+-- a byte whose switch 4 is put where it stands is that byte
+pub own-switch-4 : (byte : ℕ) → byte < 256 → withSwitch4 (switch 4 byte) byte ≡ byte
+unfolding withSwitch4
+own-switch-4 byte h = eqb-true _ byte (below 256 (λ n. eqb (withSwitch4 (switch 4 n) n) n) refl byte h)

@@ -60,10 +60,3 @@ offered parameter =
 -- "any other setting: 16"
 unfoldable pub byteFor : Parameter → Outcome ℕ
 byteFor parameter = unless (16 when not (offered parameter)) (byteOf (switchesFor parameter))
-
--- "reading then writing sets switch 4 when switch 3 is set and changes nothing else"
-unfoldable pub fourthSet : ℕ → ℕ
-fourthSet byte =
-    byteOf
-    (switch 1 byte ∷ switch 2 byte ∷ switch 3 byte ∷ (switch 3 byte || switch 4 byte)
-    ∷ switch 5 byte ∷ switch 6 byte ∷ switch 7 byte ∷ switch 8 byte ∷ [])

@@ -28,10 +28,11 @@ secondAt row = eqb (row / 2 % 2) 0
 abbrev pub thirdAt : ℕ → Bool
 thirdAt row = eqb (row % 2) 0
 
--- the row in which a rate stands first; where it stands in none, the number of rows
+-- the first row of a table that has a rate; where none has it, the number of rows
 abbrev pub rowIn : List ℕ → ℕ → ℕ
 rowIn [] baud = 0
 rowIn (rate ∷ more) baud = cond (eqb rate baud) 0 (suc (rowIn more baud))
 
+-- the row of a rate, and 8 for a rate that the table does not have
 unfoldable pub rowOf : ℕ → ℕ
 rowOf baud = rowIn rates baud

@@ -8,6 +8,7 @@ use lib.Dec.{eqb}
 abbrev pub bit : Bool → ℕ
 bit on = cond on 1 0
 
+-- the bit of a byte at a place, counted from 0
 abbrev pub isOn : ℕ → ℕ → Bool
 isOn byte place = eqb (byte / 2 ^ place % 2) 1
 
@@ -19,3 +20,9 @@ switch n byte = isOn byte (n - 1)
 abbrev pub byteOf : List Bool → ℕ
 byteOf [] = 0
 byteOf (on ∷ more) = bit on + 2 * byteOf more
+
+-- a byte with its switch 4 put on or off, and every other switch as it stands
+unfoldable pub withSwitch4 : Bool → ℕ → ℕ
+withSwitch4 on byte =
+    byteOf
+    (switch 1 byte ∷ switch 2 byte ∷ switch 3 byte ∷ on ∷ switch 5 byte ∷ switch 6 byte ∷ switch 7 byte ∷ switch 8 byte ∷ [])

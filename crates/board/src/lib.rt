@@ -3,8 +3,9 @@
 pub mod of_6036;
 
 ghost use mathlib.Core.Path.{_≡_};
-ghost use mathlib.Core.Bool.{cond};
+ghost use mathlib.Core.Bool.{cond, _||_};
 ghost use Prim.Native.Nat.{_*_, _≤_};
+ghost use lib.Dec.{eqb};
 ghost use Rattle.board.specs.Switches.{bit};
 ghost use Rattle.board.specs.Rates.{rateAt, rowOf};
 
@@ -19,7 +20,7 @@ pub enum ByteAnswer {
     Refused(u8),
 }
 
-// What each switch adds to the byte where it is on. Switch 1 is the lowest bit.
+// What each switch weighs in the byte. Switch 1 is the lowest bit.
 const SWITCH_1: u8 = 1;
 
 const SWITCH_2: u8 = 2;
@@ -39,6 +40,7 @@ const SWITCH_8: u8 = 128;
 // The rates in the order of the table, whose first row is on on on and whose last is off off off.
 const RATES: [u32; 8] = [150, 300, 600, 1200, 2400, 4800, 9600, 19200];
 
+// What a switch chooses between two numbers.
 fn pick(on: bool, this: u8, other: u8) -> u8
     ensures { λ r. ⌜ r ≡ cond on this other ⌝ }
 {
@@ -48,7 +50,16 @@ fn pick(on: bool, this: u8, other: u8) -> u8
     other
 }
 
-// A weight, where something is on.
+fn is_either(number: u8, one: u8, other: u8) -> bool
+    ensures { λ r. ⌜ r ≡ (eqb number one || eqb number other) ⌝ }
+{
+    if number == one {
+        return true;
+    }
+    number == other
+}
+
+// What a switch adds to a sum: its weight where it is on.
 fn weigh(weight: u8, on: bool) -> u8
     ensures { λ r. ⌜ (r ≡ weight * bit on) × (r ≤ weight) ⌝ }
 {

@@ -1,4 +1,4 @@
-// The parameter byte of the 6036.
+// The parameter byte of the 6036 board.
 use super::ByteAnswer;
 use super::Parity;
 use super::SWITCH_1;
@@ -9,21 +9,21 @@ use super::SWITCH_5;
 use super::SWITCH_6;
 use super::SWITCH_7;
 use super::SWITCH_8;
+use super::is_either;
 use super::pick;
 use super::rate_at;
 use super::row_of;
 use super::weigh;
 use refusals::NOT_OFFERED;
 ghost use mathlib.Core.Path.{_≡_};
-ghost use mathlib.Core.Bool.{_||_};
 ghost use Prim.Native.Nat.{_+_, _*_, _≤_};
-ghost use lib.Dec.{eqb};
 ghost use Rattle.board.specs.Switches.{bit, byteOf};
 ghost use Rattle.board.specs.Rates.{firstAt, secondAt, thirdAt};
 ghost use Rattle.board.specs.Of6036.{parityIn, parameterIn, thirdFor, fourthFor, offered, switchesFor, byteFor};
 ghost use Rattle.board.specs.Answers.{byteAnswer};
 
-// Data bits, stop bits and baud are plain numbers, so a caller can ask for what the board does not offer.
+// How the board sends: in UTC or in CET and CEST, and in which form. Data bits, stop bits and baud are plain numbers, so that a
+// caller can ask for what the board does not offer, and is refused.
 pub struct Parameter {
     pub utc: bool,
     pub data_bits: u8,
@@ -32,6 +32,7 @@ pub struct Parameter {
     pub baud: u32,
 }
 
+// Switch 4 counts only where switch 3 is off.
 fn parity_in(byte: u8) -> Parity
     ensures { λ r. ⌜ r ≡ parityIn byte ⌝ }
 {
@@ -60,15 +61,6 @@ pub fn read(byte: u8) -> Parameter
     }
 }
 
-fn is_either(number: u8, one: u8, other: u8) -> bool
-    ensures { λ r. ⌜ r ≡ eqb number one || eqb number other ⌝ }
-{
-    if number == one {
-        return true;
-    }
-    number == other
-}
-
 fn is_offered(parameter: Parameter) -> bool
     ensures { λ r. ⌜ r ≡ offered parameter ⌝ }
 {
@@ -81,6 +73,7 @@ fn is_offered(parameter: Parameter) -> bool
     row_of(parameter.baud) < 8
 }
 
+// No parity is written on/on, although the board reads on/off as no parity too.
 fn parity_weight(parity: Parity) -> u8
     ensures { λ r. ⌜ (r ≡ 4 * bit (thirdFor parity) + 8 * bit (fourthFor parity)) × (r ≤ 12) ⌝ }
 {
@@ -91,6 +84,7 @@ fn parity_weight(parity: Parity) -> u8
     }
 }
 
+// Switches 6, 7 and 8 for a row of the table.
 fn rate_weight(row: u8) -> u8
     ensures { λ r. ⌜ (r ≡ 32 * bit (firstAt row) + 64 * bit (secondAt row) + 128 * bit (thirdAt row)) × (r ≤ 224) ⌝ }
 {

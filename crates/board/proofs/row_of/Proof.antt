@@ -1,6 +1,6 @@
 -- `board::row_of` meets its contract. The loop's invariant: the rate is in none of the rows passed, so its row is counted on from them.
 -- The measure is how many rows are left.
-use mathlib.Core.Path.{_≡_, sym, _∙_}
+use mathlib.Core.Path.{_≡_, sym}
 use Prim.Native.Nat.{_+_, _-_, _≤_}
 use native.Mathlib.Omega.{arith}
 use lib.ListN.{drop}

@@ -1,7 +1,7 @@
--- `board::of_6036::is_either` meets its contract.
+-- `board::is_either` meets its contract.
 use borrow.Author.Tests.{eq-eqb, ne-eqb}
-use Rattle.board.proofs.of_6036.is_either.Statement.{statement}
-use Rattle.board.proofs.of_6036.is_either.Tie as tie
+use Rattle.board.proofs.is_either.Statement.{statement}
+use Rattle.board.proofs.is_either.Tie as tie
 
 returns : tie.Need-returns
 returns c = rw (eq-eqb _ _ (c .if1 .taken))
