@@ -1,0 +1,4 @@
+pub mod SwitchLaws
+pub mod RateLaws
+pub mod Laws6036
+pub mod Whole

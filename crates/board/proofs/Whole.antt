@@ -1,0 +1,10 @@
+-- The promises about the parameter byte leave nothing open: what an answer means determines the answer. Assumes nothing.
+use mathlib.Core.Path.{_≡_, refl}
+use Rattle.refusals.proofs.Laws.{back, told-apart}
+use Rattle.board.specs.Answers.{byteAnswer}
+use Rattle.board.specs.declared.ByteAnswer.{ByteAnswer}
+use Rattle.board.specs.declared.ByteAnswer.the-variants as answer
+
+pub byte-told-apart : (a b : ByteAnswer) → byteAnswer a ≡ byteAnswer b → a ≡ b
+byte-told-apart =
+    told-apart byteAnswer (back answer.Byte answer.Refused) elim [ answer.Byte byte ↦ refl | answer.Refused n ↦ refl ]

@@ -1,0 +1,93 @@
+// The parameter byte of a clock board: eight switches that say how the board sends on its serial line.
+// What a switch means is the board's own matter, in a module for each board.
+pub mod of_6036;
+
+ghost use mathlib.Core.Path.{_≡_};
+ghost use mathlib.Core.Bool.{cond, _||_};
+ghost use Prim.Native.Nat.{_*_, _≤_};
+ghost use lib.Dec.{eqb};
+ghost use Rattle.board.specs.Switches.{bit};
+ghost use Rattle.board.specs.Rates.{rateAt, rowOf};
+
+pub enum Parity {
+    None,
+    Even,
+    Odd,
+}
+
+pub enum ByteAnswer {
+    Byte(u8),
+    Refused(u8),
+}
+
+// What each switch weighs in the byte. Switch 1 is the lowest bit.
+const SWITCH_1: u8 = 1;
+
+const SWITCH_2: u8 = 2;
+
+const SWITCH_3: u8 = 4;
+
+const SWITCH_4: u8 = 8;
+
+const SWITCH_5: u8 = 16;
+
+const SWITCH_6: u8 = 32;
+
+const SWITCH_7: u8 = 64;
+
+const SWITCH_8: u8 = 128;
+
+// The rates in the order of the table, whose first row is on on on and whose last is off off off.
+const RATES: [u32; 8] = [150, 300, 600, 1200, 2400, 4800, 9600, 19200];
+
+// What a switch chooses between two numbers.
+fn pick(on: bool, this: u8, other: u8) -> u8
+    ensures { λ r. ⌜ r ≡ cond on this other ⌝ }
+{
+    if on {
+        return this;
+    }
+    other
+}
+
+fn is_either(number: u8, one: u8, other: u8) -> bool
+    ensures { λ r. ⌜ r ≡ (eqb number one || eqb number other) ⌝ }
+{
+    if number == one {
+        return true;
+    }
+    number == other
+}
+
+// What a switch adds to a sum: its weight where it is on.
+fn weigh(weight: u8, on: bool) -> u8
+    ensures { λ r. ⌜ (r ≡ weight * bit on) × (r ≤ weight) ⌝ }
+{
+    if on {
+        return weight;
+    }
+    0
+}
+
+// The rate at three switches, given in the order in which the board's table names them.
+fn rate_at(first: bool, second: bool, third: bool) -> u32
+    ensures { λ r. ⌜ r ≡ rateAt first second third ⌝ }
+{
+    let row = weigh(4, !first) + weigh(2, !second) + weigh(1, !third);
+    RATES[row as usize]
+}
+
+// The row of a rate, or 8 where it stands in none.
+fn row_of(baud: u32) -> u8
+    ensures { λ r. ⌜ r ≡ rowOf baud ⌝ }
+{
+    let rates = RATES;
+    let mut row = 0;
+    while row < 8 {
+        if rates[row] == baud {
+            return row as u8;
+        }
+        row += 1;
+    }
+    8
+}
