@@ -1,8 +1,9 @@
 #!/usr/bin/env python3
 """Fails where a public function's promise is not whole.
 
-Each `pub fn` of a crate must have an `ensures`, must have no `requires`, and must have a row in docs/PROMISES.md
-that names it by its path, as `calendar::date::day_number`. A row that names no such function fails too.
+Each `pub fn` of a library must have an `ensures`, must have no `requires`, and must have a row in docs/PROMISES.md
+that names it by its path, as `calendar::date::day_number`, and at least two must-fail edits of its crate. A row that
+names no such function or edit fails too, and so does an edit that no row names. (A program offers its functions to nobody.)
 """
 import pathlib
 import re
@@ -11,7 +12,8 @@ import sys
 ROOT = pathlib.Path(__file__).resolve().parent.parent
 HEAD = re.compile(r"^(\s*)pub (?:extern \"C\" )?fn (\w+)")
 IMPL = re.compile(r"^impl (\w+)")
-ROW = re.compile(r"^\| `([\w:]+)` \|", re.M)
+ROW = re.compile(r"^\| `([\w:]+)` \|(.*)$", re.M)
+EDIT = re.compile(r"\(`(\w+)`\)")
 
 
 def module_of(source):
@@ -41,9 +43,33 @@ def functions(source):
         yield f"{module_of(source)}::{inside}{found.group(2)}", number, head
 
 
+def sources():
+    """The source files of every library."""
+    for crate in sorted((ROOT / "crates").iterdir()):
+        if not (crate / "src" / "main.rt").exists():
+            yield from sorted(crate.glob("src/**/*.rt"))
+
+
+def edit_faults(rows):
+    """Edits that a row names and that are not there, too few of them, and edits that no row names."""
+    named = set()
+    for path, row in rows:
+        crate = path.split("::")[0]
+        labels = EDIT.findall(row)
+        if len(set(labels)) < 2:
+            yield f"docs/PROMISES.md names fewer than two edits for {path}"
+        for label in labels:
+            named.add((crate, label))
+            if not (ROOT / "crates" / crate / "must-fail" / f"{label}.edit").exists():
+                yield f"docs/PROMISES.md names {crate}/{label}, which is no edit"
+    for edit in sorted((ROOT / "crates").glob("*/must-fail/*.edit")):
+        if (edit.parts[-3], edit.stem) not in named:
+            yield f"docs/PROMISES.md does not name the edit {edit.parts[-3]}/{edit.stem}"
+
+
 def main():
     faults, seen = [], set()
-    for source in sorted((ROOT / "crates").glob("*/src/**/*.rt")):
+    for source in sources():
         for path, number, head in functions(source):
             seen.add(path)
             where = f"{source.relative_to(ROOT)}:{number}: {path}"
@@ -51,9 +77,11 @@ def main():
                 faults.append(f"{where} has no ensures")
             if any(line.startswith("requires") for line in head):
                 faults.append(f"{where} has a requires")
-    listed = set(ROW.findall((ROOT / "docs" / "PROMISES.md").read_text(encoding="utf-8")))
+    rows = ROW.findall((ROOT / "docs" / "PROMISES.md").read_text(encoding="utf-8"))
+    listed = {path for path, _ in rows}
     faults += [f"docs/PROMISES.md does not list {path}" for path in sorted(seen - listed)]
     faults += [f"docs/PROMISES.md lists {path}, which is no public function" for path in sorted(listed - seen)]
+    faults += edit_faults(rows)
     for fault in faults:
         print(fault)
     print(f"promises: {len(seen)} public functions, {len(faults)} faults")

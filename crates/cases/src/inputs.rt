@@ -17,7 +17,7 @@ pub fn byte(bytes: &[u8], at: usize) -> u8 {
     0
 }
 
-fn flag(bytes: &[u8], at: usize) -> bool {
+pub fn flag(bytes: &[u8], at: usize) -> bool {
     byte(bytes, at) != 0
 }
 

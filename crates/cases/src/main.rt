@@ -7,8 +7,12 @@
 //   U        the UTC seconds of a record
 //   D        the day number of a date
 //   d        the date of a day number
+//   K        steps a clock in place: its record
+//   P        reads a parameter byte
+//   Q        writes a parameter byte: the setting
 //   F        feeds a reader: its state, a piece
 //   E        ends a line: the reader's state
+mod boards;
 mod inputs;
 mod lines;
 mod outputs;
@@ -27,6 +31,9 @@ fn run(letter: u8, bytes: &[u8]) {
         b'U' => records::utc_seconds(bytes),
         b'D' => records::day_number(bytes),
         b'd' => records::date(bytes),
+        b'K' => records::step(bytes),
+        b'P' => boards::reads(bytes),
+        b'Q' => boards::writes(bytes),
         b'F' => lines::feeds(bytes),
         b'E' => lines::ends(bytes),
         _ => {}

@@ -54,12 +54,16 @@ fn reception_number(reception: Reception) -> u64 {
     }
 }
 
+pub fn print_flag(on: bool) {
+    print(flag(on));
+}
+
 fn print_status(status: Status) {
     let reception = status.reception;
     print(reception_number(reception));
-    print(flag(status.daylight));
-    print(flag(status.utc));
-    print(flag(status.announced));
+    print_flag(status.daylight);
+    print_flag(status.utc);
+    print_flag(status.announced);
 }
 
 pub fn print_date(date: Date) {

@@ -1,8 +1,10 @@
-// Cases of records and dates.
+// Cases of records, dates and the station clock.
 use super::inputs;
 use super::outputs;
 use calendar::date::DateAnswer;
 use calendar::date::DayAnswer;
+use clock::Clock;
+use clock::StepAnswer;
 use record::utc::UtcAnswer;
 
 pub fn next_second(bytes: &[u8]) {
@@ -38,4 +40,19 @@ pub fn date(bytes: &[u8]) {
         }
         DateAnswer::Refused(number) => outputs::print(number as u64),
     }
+}
+
+// What the step answers, and the clock that is left.
+pub fn step(bytes: &[u8]) {
+    let stepped = clock::in_place(Clock {
+        rec: inputs::rec(bytes),
+    });
+    let answer = stepped.answer;
+    match answer {
+        StepAnswer::Stepped => outputs::print(0),
+        StepAnswer::Refused(number) => outputs::print(number as u64),
+    }
+    let left = stepped.clock;
+    let rec = left.rec;
+    outputs::print_record(rec);
 }
