@@ -1,9 +1,4 @@
-"""The cases of the program `cases`, and what it should print for each.
-
-A case is a letter, a length and that many bytes. R and r read the bytes as one telegram, with or without control characters.
-A refusal is its number; a record is 0, its layout's number (with a 1 in front where it carries the time alone) and its fields.
-Every number is followed by a space, every case by a line end.
-"""
+"""The cases of the program `cases`, and what it should print for each."""
 
 import random
 import sys
@@ -11,53 +6,158 @@ import sys
 sys.dont_write_bytecode = True  # leaves no files behind
 
 import days
+import line
+import making
 import manual_examples
+import parameter
+import records
 import telegrams
-from layouts import LAYOUTS, TIME_ONLY, Decimal
-from records import Dated, TimeOnly, is_time_only
-from refusals import Refused
+from encoding import (answer_numbers, case, event_numbers, line as printed, parameter_bytes, parameter_numbers, record_bytes,
+                      record_numbers, setting_number, state_bytes, state_numbers)
+from layouts import LAYOUTS, TIME_ONLY, length
+from records import Dated, TimeOnly
+from refusals import outcome
+from telegrams import Setting
 
-RECEPTIONS = ["invalid", "crystal", "radio", "high"]
 SEED = 1996
-DAMAGED = 1500
+UNTOUCHED = 170   # what a lent buffer holds before
+ONE, MANY = 32, 64   # the program's buffers for one telegram and for several
+
+SETTINGS = [None] + [Setting(control, advance) for advance in (False, True) for control in (False, True)]
+
+# The refusals that document 01 gives to an entry point; each has to occur.
+OWN_REFUSALS = {
+    "R": {1, 2, 3, 4, 5, 6, 7, 8}, "r": {1, 3, 4, 5, 6, 7, 8},
+    "W": {5, 6, 7, 8, 12, 13, 14}, "S": {5, 6, 7, 8, 12, 13, 14},
+    "N": {5, 6, 7, 8, 12}, "K": {5, 6, 7, 8, 12, 14}, "U": {5, 6, 7, 8, 12, 14},
+    "D": {6, 7}, "d": {12}, "Q": {16},
+    "F": {1, 3, 4, 5, 6, 7, 8, 9, 10, 15}, "E": {11, 15},
+}
 
 
-# --- how an outcome is printed ---
+class Seen:
+    """Which refusals have occurred at which entry point."""
 
-def layout_number(layout):
-    """6021 for 6021 and 16021 for 6021t."""
-    return 10000 + int(layout[:-1]) if layout in TIME_ONLY else int(layout)
+    def __init__(self):
+        self.numbers = {letter: set() for letter in OWN_REFUSALS}
 
+    def note(self, letter, refusal):
+        if refusal is not None:
+            self.numbers[letter].add(refusal)
 
-def numbers_of(record):
-    """A record's layout and fields."""
-    time = [record.hour, record.minute, record.second]
-    if is_time_only(record):
-        return [layout_number(record.layout)] + time
-    flags = [RECEPTIONS.index(record.reception), int(record.daylight), int(record.utc), int(record.announced)]
-    return [layout_number(record.layout)] + flags + [record.weekday, record.year, record.month, record.day] + time
-
-
-def line(numbers):
-    """Numbers as the program prints them."""
-    return "".join("%d " % number for number in numbers).encode("ascii") + b"\n"
+    def check(self):
+        """Fails where a refusal never occurred, or one that the entry point does not give did."""
+        for letter, wanted in OWN_REFUSALS.items():
+            if self.numbers[letter] != wanted:
+                raise AssertionError(f"case {letter}: refusals {sorted(self.numbers[letter])}, wanted {sorted(wanted)}")
 
 
-# --- the cases ---
+SEEN = Seen()
 
-def case(letter, payload):
-    """A case as the program reads it."""
-    return letter.encode("ascii") + bytes([len(payload)]) + payload
 
+# --- one case of each kind ---
 
 def read_case(telegram, control):
-    """A telegram to read, and what comes of it."""
-    try:
-        numbers = [0] + numbers_of(telegrams.read_telegram(telegram, control))
-    except Refused as refused:
-        numbers = [refused.number]
-    return case("R" if control else "r", telegram), line(numbers)
+    """A telegram to read."""
+    letter = "R" if control else "r"
+    record, refusal = outcome(telegrams.read_telegram, telegram, control)
+    SEEN.note(letter, refusal)
+    return case(letter, telegram), printed(answer_numbers(record, refusal, record_numbers))
 
+
+def write_case(record, setting, room):
+    """A record to write into a buffer of so many bytes."""
+    buffer = bytearray([UNTOUCHED] * room)
+    used, refusal = outcome(telegrams.write_telegram, record, buffer, setting)
+    SEEN.note("W", refusal)
+    whole = list(buffer) + [UNTOUCHED] * (ONE - room)
+    given = case("W", bytes([setting_number(setting), room]) + record_bytes(record))
+    return given, printed(answer_numbers(used, refusal, lambda used: [used]) + whole)
+
+
+def several_case(some, setting, room):
+    """Records to write one behind another."""
+    buffer = bytearray([UNTOUCHED] * room)
+    written = telegrams.write_telegrams(some, buffer, setting)
+    SEEN.note("S", written.refusal)
+    whole = list(buffer) + [UNTOUCHED] * (MANY - room)
+    given = case("S", bytes([setting_number(setting), room]) + b"".join(record_bytes(record) for record in some))
+    return given, printed([written.stand, written.used, written.refusal or 0] + whole)
+
+
+def next_case(record):
+    """A record to advance by a second."""
+    later, refusal = outcome(records.next_second, record)
+    SEEN.note("N", refusal)
+    return case("N", record_bytes(record)), printed(answer_numbers(later, refusal, record_numbers))
+
+
+def step_case(record):
+    """A clock to step: what it answers, and what it then shows."""
+    later, refusal = outcome(records.step_clock, record)
+    SEEN.note("K", refusal)
+    left = record if later is None else later
+    return case("K", record_bytes(record)), printed([refusal or 0] + record_numbers(left))
+
+
+def utc_case(record):
+    """A record to put in UTC seconds."""
+    seconds, refusal = outcome(records.utc_seconds, record)
+    SEEN.note("U", refusal)
+    return case("U", record_bytes(record)), printed(answer_numbers(seconds, refusal, lambda seconds: [seconds.count]))
+
+
+def day_case(date):
+    """A date to number, with its weekday."""
+    number, refusal = outcome(days.day_number, date)
+    SEEN.note("D", refusal)
+    given = case("D", date.year.to_bytes(2, "big") + bytes([date.month, date.day]))
+    return given, printed(answer_numbers(number, refusal, lambda number: [number, days.weekday_of_number(number)]))
+
+
+def date_case(number):
+    """A day number to date."""
+    date, refusal = outcome(days.date_of, number)
+    SEEN.note("d", refusal)
+    return case("d", number.to_bytes(4, "big")), printed(answer_numbers(date, refusal, list))
+
+
+def parameter_case(byte):
+    """A parameter byte to read."""
+    return case("P", bytes([byte])), printed(parameter_numbers(parameter.read_parameter(byte)))
+
+
+def setting_case(setting):
+    """A parameter byte to write."""
+    byte, refusal = outcome(parameter.write_parameter, setting)
+    SEEN.note("Q", refusal)
+    return case("Q", parameter_bytes(setting)), printed(answer_numbers(byte, refusal, lambda byte: [byte]))
+
+
+def feed_case(state, piece):
+    """A reader to feed. A state that is refused takes nothing and comes back."""
+    fed, refusal = outcome(line.feed, state, piece)
+    SEEN.note("F", refusal)
+    given = case("F", state_bytes(state) + piece)
+    if refusal is not None:
+        return given, printed([0, 2, refusal] + state_numbers(state))
+    if fed.event is not None and isinstance(fed.event.outcome, int):
+        SEEN.note("F", fed.event.outcome)
+    return given, printed([fed.taken] + event_numbers(fed.event) + state_numbers(fed.state))
+
+
+def end_case(state):
+    """A line to end."""
+    ended, refusal = outcome(line.end, state)
+    SEEN.note("E", refusal)
+    if refusal is not None:
+        return case("E", state_bytes(state)), printed([2, refusal] + state_numbers(state))
+    left, event = ended
+    SEEN.note("E", event.outcome if event else None)
+    return case("E", state_bytes(state)), printed(event_numbers(event) + state_numbers(left))
+
+
+# --- reading ---
 
 def without_frame(telegram):
     """A telegram without its STX and ETX, where it has them."""
@@ -72,66 +172,169 @@ def manual_cases():
         yield read_case(without_frame(example.telegram), False)
 
 
-def some_telegram(rng, layout):
-    """A good telegram of a layout."""
-    if layout in TIME_ONLY:
-        record = TimeOnly(layout, rng.randrange(24), rng.randrange(60), rng.randrange(60))
-    else:
-        record = some_dated(rng, layout)
-    buffer = bytearray(25)
-    length = telegrams.write_telegram(record, buffer, telegrams.Setting(True, False))
-    return bytes(buffer[:length])
-
-
-def some_dated(rng, layout):
-    """A good record with a date."""
-    date = days.date_of(rng.randrange(36525))
-    weekday = days.weekday_of(date)
-    flags = rng.choice([("radio", False, False, False), ("crystal", True, True, False), ("crystal", False, False, True)])
-    if layout in ("6021", "2000"):
-        flags = (rng.choice(RECEPTIONS), rng.random() < 0.5, rng.random() < 0.5, rng.random() < 0.5)
-    reception, daylight, announced, utc = flags
-    return Dated(layout, reception, daylight, announced, utc, weekday, rng.randrange(24), rng.randrange(60), rng.randrange(60),
-                 date.day, date.month, date.year)
-
-
-def with_late_day(rng, layout, telegram):
-    """A telegram with the 28th to the 31st for its day, which the month may lack."""
-    telegram = bytearray(telegram)
-    day = rng.randrange(28, 32)
-    for at, place in enumerate(LAYOUTS[layout]):
-        if place == Decimal("day", 10):
-            telegram[at + 1] = 48 + day // 10
-        elif place == Decimal("day", 1):
-            telegram[at + 1] = 48 + day % 10
-    return bytes(telegram)
-
-
-def damaged(rng, telegram):
-    """A telegram with up to three bytes changed, most often to a digit, or with a byte more or less."""
-    telegram = bytearray(telegram)
-    for _ in range(rng.choice([0, 1, 1, 1, 2, 3])):
-        at = rng.randrange(len(telegram))
-        telegram[at] = rng.choice([rng.randrange(48, 58), rng.randrange(48, 71), rng.choice(b" \n\r\x02\x03"), rng.randrange(256)])
-    if rng.random() < 0.05:
-        telegram.append(rng.randrange(256))
-    elif rng.random() < 0.05:
-        telegram.pop()
-    return bytes(telegram)
-
-
-def damaged_cases():
+def damaged_cases(dice):
     """Telegrams of every layout, whole and damaged, read in both modes."""
-    rng = random.Random(SEED)
-    for _ in range(DAMAGED):
-        layout = rng.choice(list(LAYOUTS))
-        telegram = some_telegram(rng, layout)
-        telegram = damaged(rng, telegram) if rng.random() < 0.8 else with_late_day(rng, layout, telegram)
-        control = rng.random() < 0.5
-        yield read_case(telegram if control else without_frame(telegram), control)
+    for _ in range(1500):
+        control = dice.random() < 0.5
+        yield read_case(making.some_telegram(dice, control), control)
+
+
+# --- writing ---
+
+def one_of_each():
+    """A good record of each layout."""
+    for layout in LAYOUTS:
+        if layout in TIME_ONLY:
+            yield TimeOnly(layout, 23, 59, 59)
+        else:
+            yield Dated(layout, "radio", False, True, False, 7, 23, 59, 59, 29, 2, 2004)
+
+
+def bad_records():
+    """A record for each of 5 to 8, and with two faults, of which the lower number is given."""
+    good = Dated("5050", "radio", False, False, False, 3, 12, 34, 56, 3, 1, 1996)
+    for changed in ({"reception": "high"}, {"utc": True, "daylight": True}, {"weekday": 0}, {"weekday": 8}, {"hour": 24}, {"minute": 60},
+                    {"second": 60}, {"year": 1979}, {"year": 2080}, {"month": 0}, {"month": 13}, {"day": 0}, {"day": 32},
+                    {"day": 30, "month": 2}, {"day": 31, "month": 4}, {"weekday": 4}, {"weekday": 4, "day": 31, "month": 4},
+                    {"reception": "invalid", "hour": 24}):
+        yield good._replace(**changed)
+    yield TimeOnly("5050t", 24, 0, 0)
+
+
+def writes_of_bad_records():
+    """Refused with the record's own number, whatever the buffer's length; so behind a good one."""
+    for record in bad_records():
+        for setting in SETTINGS:
+            yield write_case(record, setting, 0)
+            yield write_case(record, setting, ONE)
+        yield several_case([TimeOnly("6021t", 1, 2, 3), record], Setting(True, False), MANY)
+
+
+def writes_around_the_edge():
+    """Each layout with each setting, into buffers from one byte short to one byte more, and into none."""
+    for record in one_of_each():
+        for setting in SETTINGS:
+            size = 16 if setting is None else length(record.layout, setting.control_characters)
+            for room in (0, size - 1, size, size + 1):
+                yield write_case(record, setting, room)
+
+
+def writes_by_dice(dice):
+    """Any record with any setting and any buffer."""
+    for _ in range(1000):
+        yield write_case(making.any_record(dice), dice.choice(SETTINGS), dice.randrange(ONE + 1))
+
+
+def several_by_dice(dice):
+    """Some records one behind another, one of them sometimes bad, into a buffer that is sometimes short."""
+    for _ in range(500):
+        some = [making.good_record(dice) for _ in range(dice.randrange(5))]
+        if dice.random() < 0.4:
+            some.insert(dice.randrange(len(some) + 1), making.any_record(dice))
+        yield several_case(some, dice.choice(SETTINGS), dice.randrange(MANY + 1))
+
+
+# --- the next second ---
+
+def month_ends():
+    """The last second of every month of the calendar."""
+    for start in days.MONTH_STARTS[1:] + [days.DAYS]:
+        date = days.date_of(start - 1)
+        yield Dated("6021", "radio", False, False, False, days.weekday_of_number(start - 1), 23, 59, 59,
+                    date.day, date.month, date.year)
+
+
+def seconds_cases(dice):
+    """Advances, steps and UTC seconds: over every month end, and of any record."""
+    for record in month_ends():
+        yield next_case(record)
+        yield step_case(record)
+    for record in [*one_of_each(), *bad_records()] + [making.any_record(dice) for _ in range(500)]:
+        yield next_case(record)
+        yield step_case(record)
+        yield utc_case(record)
+
+
+def utc_edges():
+    """The first hours of the calendar and its last second, in each season and in UTC."""
+    for hour, minute, second in ((0, 0, 0), (0, 30, 0), (0, 59, 59), (1, 0, 0), (1, 59, 59), (2, 0, 0), (23, 59, 59)):
+        for daylight, utc in ((False, False), (True, False), (False, True), (True, True)):
+            yield utc_case(Dated("6021", "radio", daylight, False, utc, 2, hour, minute, second, 1, 1, 1980))
+            yield utc_case(Dated("2000", "invalid", daylight, False, utc, 7, hour, minute, second, 31, 12, 2079))
+
+
+# --- dates and day numbers ---
+
+def calendar_cases():
+    """The first and the last day of every month, and what lies outside."""
+    for start in days.MONTH_STARTS:
+        for number in (start, start - 1 if start else days.DAYS - 1):
+            yield date_case(number)
+            yield day_case(days.date_of(number))
+    for number in (36524, 36525, 65535, 65536, 4294967295):
+        yield date_case(number)
+    for year, month, day in ((1979, 12, 31), (2080, 1, 1), (0, 1, 1), (65535, 1, 1), (2000, 0, 1), (2000, 13, 1), (2000, 255, 1),
+                             (2000, 1, 0), (2000, 1, 32), (2000, 1, 255), (1999, 2, 29), (2000, 2, 30), (2000, 4, 31), (2001, 11, 31)):
+        yield day_case(days.Date(year, month, day))
+
+
+# --- the parameter byte ---
+
+def parameter_cases():
+    """All 256 bytes, each setting that they make, and settings that the board does not offer."""
+    for byte in range(256):
+        yield parameter_case(byte)
+        yield setting_case(parameter.read_parameter(byte))
+    good = parameter.read_parameter(0x9F)
+    for changed in ({"data_bits": 0}, {"data_bits": 6}, {"data_bits": 9}, {"data_bits": 255}, {"stop_bits": 0}, {"stop_bits": 3},
+                    {"stop_bits": 255}, {"baud": 0}, {"baud": 110}, {"baud": 151}, {"baud": 19201}, {"baud": 38400},
+                    {"baud": 4294967295}, {"data_bits": 9, "baud": 38400}):
+        yield setting_case(good._replace(**changed))
+
+
+# --- the line ---
+
+def states(dice):
+    """Reader states: well formed ones with any counts, and each clause of the rule broken."""
+    full = b"\x02" + b"1" * 23
+    for fed in (0, 1, 24, 25, 4294967295, dice.randrange(2 ** 32)):
+        for held in (b"", b"\x02", b"\x02E312345617", full[:23], full):
+            good = line.with_held(held, fed, dice.choice([0, 7, 4294967295]))
+            yield good
+            yield good._replace(start=(good.start + 1) % line.WRAP)
+            yield good._replace(stray=dice.randrange(2 ** 32))
+    for held, size in ((full, 25), (full, 255), (b"1", 1), (b"\x03", 1), (b"\x02\x02", 2), (b"\x02\x03", 2),
+                       (full[:23] + b"\x02", 24), (full[:23] + b"\x03", 24), (b"\x021", 1), (b"", 1)):
+        places = (list(held) + [0] * 24)[:24]
+        yield line.state_of(places, size, 100, 0, (100 - size) % line.WRAP)
+    yield line.state_of([0] * 23 + [1], 0, 0, 0, 0)
+    yield line.state_of([2] + [0] * 22 + [1], 1, 1, 0, 0)
+
+
+def line_cases(dice):
+    """Every state with an empty piece, with each byte that means something, with telegrams, and at the line's end."""
+    for state in states(dice):
+        yield end_case(state)
+        for piece in (b"", b"\x02", b"\x03", b"x", b"xx\x02", b"1" * 30):
+            yield feed_case(state, piece)
+        for _ in range(6):
+            yield feed_case(state, making.random_line(dice)[:200])
+    for _ in range(500):
+        yield feed_case(line.fresh(), making.some_telegram(dice, True))
 
 
 def all_cases():
     """Every case, in the order in which the program gets them."""
+    dice = random.Random(SEED)
     yield from manual_cases()
-    yield from damaged_cases()
+    yield from damaged_cases(dice)
+    yield from writes_around_the_edge()
+    yield from writes_of_bad_records()
+    yield from writes_by_dice(dice)
+    yield from several_by_dice(dice)
+    yield from seconds_cases(dice)
+    yield from utc_edges()
+    yield from calendar_cases()
+    yield from parameter_cases()
+    yield from line_cases(dice)
+    SEEN.check()

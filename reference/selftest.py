@@ -15,6 +15,7 @@ import days
 import layouts
 import line
 import listing
+import making
 import manual_examples
 import parameter
 import records
@@ -137,44 +138,11 @@ def time_of_day():
     same("time of day", outcome(days.next_second, Time(24, 0, 0)), (None, 6))
 
 
-# --- random records ---
-
-def good_record(dice):
-    """Any good record of any layout, with midnights and year ends more often than by chance."""
-    layout = dice.choice(list(layouts.LAYOUTS))
-    late = dice.random() < 0.3
-    time = (23, 59, 59) if late else (dice.randrange(24), dice.randrange(60), dice.randrange(60))
-    if layout in layouts.TIME_ONLY:
-        return TimeOnly(layout, *time)
-    number = dice.choice([dice.randrange(days.DAYS), 0, days.DAYS - 1])
-    date = days.date_of(number)
-    record = Dated(layout, dice.choice(status.RECEPTIONS), dice.random() < 0.5,
-                   dice.random() < 0.5, dice.random() < 0.5, days.weekday_of_number(number),
-                   *time, date.day, date.month, date.year)
-    if records.status_not_allowed(record):
-        record = record._replace(reception="crystal", utc=False)
-    return record
-
-
-def any_record(dice):
-    """A good record, mostly with fields put out of order."""
-    record = good_record(dice)
-    for _ in range(dice.randrange(4)):
-        field = dice.choice(record._fields[1:])
-        if field == "reception":
-            value = dice.choice(status.RECEPTIONS)
-        elif field in ("daylight", "announced", "utc"):
-            value = dice.random() < 0.5
-        else:
-            value = dice.choice([0, 1, 7, 8, 12, 13, 23, 24, 28, 29, 30, 31, 32, 59, 60, 99,
-                                 200, 255, 1979, 1980, 2079, 2080, 65535])
-        record = record._replace(**{field: value})
-    return record
-
+# --- writing and reading back ---
 
 def read_back_what_was_written(dice, rounds):
     for _ in range(rounds):
-        record, setting = good_record(dice), dice.choice(SETTINGS)
+        record, setting = making.good_record(dice), dice.choice(SETTINGS)
         buffer = bytearray(dice.randbytes(40))
         before = bytes(buffer)
         wanted, number = (outcome(records.next_second, record) if setting.second_advance
@@ -191,7 +159,7 @@ def read_back_what_was_written(dice, rounds):
 
 def no_setting_named(dice, rounds):
     for _ in range(rounds):
-        record = any_record(dice)
+        record = making.any_record(dice)
         buffer = bytearray(dice.randbytes(dice.choice([0, 15, 16, 40])))
         before = bytes(buffer)
         number = outcome(records.check_record, record)[1]
@@ -210,7 +178,7 @@ def no_setting_named(dice, rounds):
 def refusals_of_records(dice, rounds):
     """Writing, stepping and UTC seconds agree on 5 to 8 and differ only behind it."""
     for _ in range(rounds):
-        record = any_record(dice)
+        record = making.any_record(dice)
         bad = outcome(records.check_record, record)[1]
         time_only = records.is_time_only(record)
         later, number = outcome(records.next_second, record)
@@ -252,9 +220,9 @@ def fields_out_of_order():
 
 def several(dice, rounds):
     for _ in range(rounds):
-        some = [good_record(dice) for _ in range(dice.randrange(6))]
+        some = [making.good_record(dice) for _ in range(dice.randrange(6))]
         if dice.random() < 0.3:
-            some.insert(dice.randrange(len(some) + 1), any_record(dice))
+            some.insert(dice.randrange(len(some) + 1), making.any_record(dice))
         setting = dice.choice(SETTINGS + [None])
         buffer = bytearray(dice.randrange(140))
         room, wanted = bytearray(len(buffer)), Written(0, 0, None)
@@ -291,38 +259,15 @@ def utc_counts():
 
 # --- damaged telegrams ---
 
-LIKELY = b"0123456789ABCDEF \r\n\x02\x03G/:af"
-
-
-def telegram_of(record, control):
-    buffer = bytearray(layouts.length(record.layout, control))
-    telegrams.write_telegram(record, buffer, Setting(control, False))
-    return bytes(buffer)
-
-
-def damaged(dice, telegram):
-    """A telegram with some bytes changed, dropped or put in."""
-    telegram = bytearray(telegram)
-    for _ in range(dice.randrange(4)):
-        place, kind = dice.randrange(len(telegram)), dice.random()
-        if kind < 0.8:
-            telegram[place] = dice.choice(LIKELY)
-        elif kind < 0.9:
-            telegram.insert(place, dice.choice(LIKELY))
-        elif len(telegram) > 1:
-            del telegram[place]
-    return bytes(telegram)
-
-
 def what_reads_is_what_the_writer_makes(dice, rounds):
     for _ in range(rounds):
         control = dice.random() < 0.5
-        telegram = damaged(dice, telegram_of(good_record(dice), control))
+        telegram = making.damaged(dice, making.telegram_of(making.good_record(dice), control))
         got = read(telegram, control)
         if isinstance(got, int):
             same("damaged", 1 <= got <= 8, True)
         else:
-            same("damaged", telegram_of(got, control), telegram)
+            same("damaged", making.telegram_of(got, control), telegram)
 
 
 def status_and_weekday_characters():
@@ -345,7 +290,7 @@ def status_and_weekday_characters():
                 elif second not in wednesday:
                     same("characters", got, 8)
                 else:
-                    same("characters", telegram_of(got, True), bytes(telegram))
+                    same("characters", making.telegram_of(got, True), bytes(telegram))
 
 
 # --- the line ---
@@ -369,20 +314,6 @@ def events_by_pattern(captured):
     return events, stray
 
 
-def random_line(dice):
-    parts = []
-    for _ in range(dice.randrange(8)):
-        telegram = telegram_of(good_record(dice), dice.random() < 0.9)
-        kind = dice.random()
-        if kind < 0.5:
-            telegram = damaged(dice, telegram)
-        elif kind < 0.6:
-            telegram = STX + dice.randbytes(dice.randrange(30))
-        parts.append(telegram)
-        parts.append(bytes(dice.choice(LIKELY) for _ in range(dice.choice([0, 0, 1, 30]))))
-    return b"".join(parts)
-
-
 def fed_in_pieces(dice, state, captured):
     """Feeds a line cut at random places, piece after piece, the untaken rest again."""
     events = []
@@ -402,7 +333,7 @@ def fed_in_pieces(dice, state, captured):
 
 def lines(dice, rounds):
     for _ in range(rounds):
-        captured = random_line(dice)
+        captured = making.random_line(dice)
         whole, stray = events_by_pattern(captured)
         same("line", listing.events_of(captured)[0], whole)
         state, events = fed_in_pieces(dice, line.fresh(), captured)
@@ -418,7 +349,7 @@ def lines(dice, rounds):
 def wrapping_counts(dice, rounds):
     """The same line behind counts that are about to wrap gives the same events, moved."""
     for _ in range(rounds):
-        captured = random_line(dice)
+        captured = making.random_line(dice)
         fed, stray = (dice.choice([WRAP - 1, dice.randrange(WRAP - 200, WRAP)]) for _ in "ab")
         moved = line.state_of([0] * 24, 0, fed, stray, fed)
         state, events = fed_in_pieces(dice, line.fresh(), captured)
@@ -472,7 +403,7 @@ def parameter_bytes():
 def rows(dice, rounds):
     """A row goes into a buffer that has room for it, and into no shorter one."""
     for _ in range(rounds):
-        result = dice.choice([good_record(dice), dice.randrange(1, 12)])
+        result = dice.choice([making.good_record(dice), dice.randrange(1, 12)])
         event = line.Event(dice.randrange(WRAP), 18, result)
         text = listing.row(event)
         buffer = bytearray(b"?" * dice.choice([len(text) - 1, len(text), len(text) + 3]))

@@ -1,0 +1,92 @@
+"""How a case is handed to the program `cases`, and how the program prints an outcome.
+
+A case is a letter, a length and that many bytes. An outcome is a line of numbers, each with a space behind it: a refusal is its
+number, and anything else is 0 and its values. The heads of the program's files say the same.
+"""
+
+from layouts import TIME_ONLY
+from records import is_time_only
+
+RECEPTIONS = ["invalid", "crystal", "radio", "high"]
+LAYOUT_NUMBERS = ["6021", "2000", "5500", "5050", "6021t", "5500t", "5050t"]
+PARITY_NUMBERS = ["none", "even", "odd"]
+
+
+# --- what goes in ---
+
+def case(letter, payload):
+    """A case as the program reads it."""
+    return letter.encode("ascii") + bytes([len(payload)]) + payload
+
+
+def record_bytes(record):
+    """Thirteen bytes: layout, status, weekday, date, time. What a time-only record lacks is 0."""
+    head = [LAYOUT_NUMBERS.index(record.layout)]
+    time = [record.hour, record.minute, record.second]
+    if is_time_only(record):
+        return bytes(head + [0] * 9 + time)
+    flags = [RECEPTIONS.index(record.reception), record.daylight, record.utc, record.announced]
+    date = list(record.year.to_bytes(2, "big")) + [record.month, record.day]
+    return bytes(head + flags + [record.weekday] + date + time)
+
+
+def setting_number(setting):
+    """0 for no setting; else one more than the control characters in bit 0 and the advance in bit 1."""
+    return 0 if setting is None else 1 + setting.control_characters + 2 * setting.second_advance
+
+
+def state_bytes(state):
+    """37 bytes: the places, how many are held, fed, stray, start."""
+    counts = b"".join(count.to_bytes(4, "big") for count in (state.fed, state.stray, state.start))
+    return bytes(state.places) + bytes([state.length]) + counts
+
+
+def parameter_bytes(parameter):
+    """Eight bytes: UTC, data bits, parity, stop bits, baud."""
+    parity = PARITY_NUMBERS.index(parameter.parity)
+    return bytes([parameter.utc, parameter.data_bits, parity, parameter.stop_bits]) + parameter.baud.to_bytes(4, "big")
+
+
+# --- what comes out ---
+
+def line(numbers):
+    """Numbers as the program prints them."""
+    return "".join("%d " % number for number in numbers).encode("ascii") + b"\n"
+
+
+def layout_number(layout):
+    """6021 for 6021 and 16021 for 6021t."""
+    return 10000 + int(layout[:-1]) if layout in TIME_ONLY else int(layout)
+
+
+def record_numbers(record):
+    """A record's layout and fields."""
+    time = [record.hour, record.minute, record.second]
+    if is_time_only(record):
+        return [layout_number(record.layout)] + time
+    flags = [RECEPTIONS.index(record.reception), record.daylight, record.utc, record.announced]
+    return [layout_number(record.layout)] + flags + [record.weekday, record.year, record.month, record.day] + time
+
+
+def answer_numbers(value, refusal, numbers):
+    """0 and the numbers of a value, or the refusal."""
+    return [0] + numbers(value) if refusal is None else [refusal]
+
+
+def event_numbers(event):
+    """An event: 1, its position, its length and its outcome; no event is 0."""
+    if event is None:
+        return [0]
+    outcome = [event.outcome] if isinstance(event.outcome, int) else [0] + record_numbers(event.outcome)
+    return [1, event.start, event.length] + outcome
+
+
+def state_numbers(state):
+    """A reader's places and counts."""
+    return list(state.places) + [state.length, state.fed, state.stray, state.start]
+
+
+def parameter_numbers(parameter):
+    """The fields of a parameter byte."""
+    parity = PARITY_NUMBERS.index(parameter.parity)
+    return [parameter.utc, parameter.data_bits, parity, parameter.stop_bits, parameter.baud]
