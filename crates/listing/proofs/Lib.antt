@@ -1,0 +1,3 @@
+pub mod TextLaws
+pub mod DecimalLaws
+pub mod RowLaws
