@@ -6,6 +6,8 @@ use Prim.Native.Nat.{ℕ, suc, _+_, _^_, _≤_, _<_}
 use native.Mathlib.Omega.{arith}
 use lib.Dec.{lit≤}
 use lib.ListN.{length, length-append}
+use Rattle.refusals.specs.Refusals.{refused}
+use Rattle.refusals.proofs.Laws.{refuses}
 use Rattle.calendar.specs.declared.date.Date.{Date}
 use Rattle.calendar.specs.declared.time.Time.{Time}
 use Rattle.record.specs.declared.DatedLayout.{DatedLayout}
@@ -15,9 +17,12 @@ use Rattle.record.specs.declared.TimeLayout.the-variants.{T6021, T5500, T5050}
 use Rattle.record.specs.declared.Reception.{Reception}
 use Rattle.record.specs.declared.Reception.the-variants.{Invalid, Crystal, Radio, High}
 use Rattle.record.specs.declared.Status.{Status}
+use Rattle.record.specs.declared.Record.{Record}
+use Rattle.record.specs.declared.RecordAnswer.the-variants as answer
+use Rattle.record.specs.Rule.{refusalOf}
 use Rattle.listing.specs.Ascii.{ascii}
 use Rattle.listing.specs.Decimals.{decimal}
-use Rattle.listing.specs.Listing.{headerRow, datedKind, timeKind, receptionWord, seasonWord, statusColumn, datedRow, timeRow, refusedRow, strayRow}
+use Rattle.listing.specs.Listing.{headerRow, datedKind, timeKind, receptionWord, seasonWord, statusColumn, datedRow, timeRow, recordRow, refusedRow, rowOf, strayRow, laid}
 use Rattle.listing.proofs.DecimalLaws.{few-digits}
 
 dated-kind-length : (layout : DatedLayout) → length (datedKind layout) ≡ 4
@@ -81,3 +86,9 @@ module _ (start : ℕ) (counted : start < 2 ^ 32) where
   pub stray-short : length (strayRow start) ≤ 69
   unfolding strayRow
   stray-short = simp length-append (omega (arith, count-length start counted))
+
+-- a record that the rule refuses has no row
+pub rule-refuses : (start : ℕ) (rec : Record) (out : List ℕ) (n : ℕ) → n ≡ refusalOf rec → (n ≡ 0 → ⊥)
+    → laid (rowOf start (answer.Good rec)) out ≡ (refused n, out)
+unfolding laid
+rule-refuses start rec out n e some = rw (← refuses (recordRow start rec) e some)

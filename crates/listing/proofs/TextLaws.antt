@@ -75,13 +75,13 @@ pub holds : (text : Text) (row : List ℕ) → text ≡ appended emptyText row �
 holds text row e short =
     rw e (appended-holds emptyText [] row (record { room = refl; len = refl; content = refl }) (omega arith))
 
--- so that it can be laid, and is what is laid
-module _ (text : Text) (row : List ℕ) (made : text ≡ appended emptyText row) (short : length row ≤ 80) where
+-- so that it can be laid, and is what is laid; no row is longer than 69 bytes
+module _ (text : Text) (row : List ℕ) (made : text ≡ appended emptyText row) (short : length row ≤ 69) where
   pub small-enough : text .len ≤ 80
-  small-enough = omega (arith, holds text row made short .len)
+  small-enough = omega (arith, holds text row made (omega arith) .len)
 
   pub row-laid : {answer : Outcome ℕ × List ℕ} (out : List ℕ) → laid (done (contentOf text)) out ≡ answer → laid (done row) out ≡ answer
-  row-laid out e = ap (λ bytes. laid (done bytes) out) (sym (holds text row made short .content)) ∙ e
+  row-laid out e = ap (λ bytes. laid (done bytes) out) (sym (holds text row made (omega arith) .content)) ∙ e
 
 -- copying byte by byte over the first bytes of a buffer
 pub copy-step : (from out : List ℕ) (at : ℕ) → at < length from → at < length out

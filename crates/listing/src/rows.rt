@@ -117,12 +117,24 @@ fn refused_row(start: u32, number: u8) -> Text
     refused.push(b'\n')
 }
 
+fn header_row() -> Text
+    ensures { λ r. ⌜ r ≡ appended emptyText headerRow ⌝ }
+{
+    Text::empty().append(b"start;kind;date;time;weekday;status\n")
+}
+
+fn stray_row(stray: u32) -> Text
+    ensures { λ r. ⌜ r ≡ appended emptyText (strayRow stray) ⌝ }
+{
+    let words = Text::empty().append(b"stray ");
+    words.decimal(stray).push(b'\n')
+}
+
 // The first line of the listing.
 pub fn header(out: &mut [u8]) -> RowAnswer
     ensures { λ r. ⌜ laid (done headerRow) (now (out .entry)) ≡ (rowAnswer r, now (out .exit)) ⌝ }
 {
-    let text = Text::empty().append(b"start;kind;date;time;weekday;status\n");
-    text.lay(out)
+    header_row().lay(out)
 }
 
 // The row of an event: where it starts, and the record that was read or the number that it was refused with.
@@ -150,6 +162,5 @@ pub fn row(start: u32, answer: RecordAnswer, out: &mut [u8]) -> RowAnswer
 pub fn stray_line(stray: u32, out: &mut [u8]) -> RowAnswer
     ensures { λ r. ⌜ laid (done (strayRow stray)) (now (out .entry)) ≡ (rowAnswer r, now (out .exit)) ⌝ }
 {
-    let text = Text::empty().append(b"stray ").decimal(stray);
-    text.push(b'\n').lay(out)
+    stray_row(stray).lay(out)
 }

@@ -1,73 +1,55 @@
+-- `listing::rows::dated_kind` meets its contract.
 use borrow.Author.Needs.{needs}
 use Rattle.listing.proofs.rows.dated_kind.Statement.{statement}
 use Rattle.listing.proofs.rows.dated_kind.Tie as tie
-use Rattle.listing.proofs.rows.dated_kind.Reads as reads
-use Rattle.listing.proofs.rows.dated_kind.Lts as lts
-use Rattle.listing.proofs.Text.append.Reads as append-reads
 
--- src/rows.rt:24:43
 enum-told : tie.Need-enum-told
 enum-told c = search needs
 
--- src/rows.rt:24:43
 slice-aggregate-append : tie.Need-slice-aggregate-append
 slice-aggregate-append c = search needs
 
--- src/rows.rt:24:31
 append-requires : tie.Need-append-requires
 append-requires c κs = search needs
 
--- src/rows.rt:25:43
 enum-told-2 : tie.Need-enum-told-2
 enum-told-2 c = search needs
 
--- src/rows.rt:25:43
 slice-aggregate-append-2 : tie.Need-slice-aggregate-append-2
 slice-aggregate-append-2 c = search needs
 
--- src/rows.rt:25:31
 append-requires-2 : tie.Need-append-requires-2
 append-requires-2 c κs = search needs
 
--- src/rows.rt:26:43
 enum-told-3 : tie.Need-enum-told-3
 enum-told-3 c = search needs
 
--- src/rows.rt:26:43
 slice-aggregate-append-3 : tie.Need-slice-aggregate-append-3
 slice-aggregate-append-3 c = search needs
 
--- src/rows.rt:26:31
 append-requires-3 : tie.Need-append-requires-3
 append-requires-3 c κs = search needs
 
--- src/rows.rt:27:43
 enum-told-4 : tie.Need-enum-told-4
 enum-told-4 c = search needs
 
--- src/rows.rt:27:43
 slice-aggregate-append-4 : tie.Need-slice-aggregate-append-4
 slice-aggregate-append-4 c = search needs
 
--- src/rows.rt:27:31
 append-requires-4 : tie.Need-append-requires-4
 append-requires-4 c κs = search needs
 
--- src/rows.rt:20:1
 returns : tie.Need-returns
-returns c = ?
+returns c = rw (c .before .before .enum-told .given .1) (c .append .ensures)
 
--- src/rows.rt:20:1
 returns-2 : tie.Need-returns-2
-returns-2 c = ?
+returns-2 c = rw (c .before .before .enum-told2 .given .1) (c .append2 .ensures)
 
--- src/rows.rt:20:1
 returns-3 : tie.Need-returns-3
-returns-3 c = ?
+returns-3 c = rw (c .before .before .enum-told3 .given .1) (c .append3 .ensures)
 
--- src/rows.rt:20:1
 returns-4 : tie.Need-returns-4
-returns-4 c = ?
+returns-4 c = rw (c .before .before .enum-told4 .given .1) (c .append4 .ensures)
 
 pub dated-kind-spec : {M : Type 1} → statement M
 dated-kind-spec =

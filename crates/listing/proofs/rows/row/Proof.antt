@@ -1,85 +1,86 @@
+-- `listing::rows::row` meets its contract.
+use mathlib.Core.Path.{refl, sym, ap, _∙_}
+use native.Mathlib.Omega.{arith}
+use Rattle.refusals.proofs.Laws.{does}
+use Rattle.record.specs.declared.RecordAnswer.the-variants.{Good}
+use Rattle.record.specs.Rule.{refusalOf}
+use Rattle.listing.specs.Listing.{recordRow, rowOf, laid}
+use Rattle.listing.proofs.TextLaws.{small-enough, row-laid}
+use Rattle.listing.proofs.RowLaws.{rule-refuses, dated-short, time-short, refused-short}
 use borrow.Author.Needs.{needs}
 use Rattle.listing.proofs.rows.row.Statement.{statement}
 use Rattle.listing.proofs.rows.row.Tie as tie
-use Rattle.listing.proofs.rows.row.Reads as reads
-use Rattle.listing.proofs.rows.row.Lts as lts
-use Rattle.listing.proofs.Text.lay.Reads as lay-reads
-use Rattle.listing.proofs.rows.dated_row.Reads as dated-row-reads
-use Rattle.listing.proofs.rows.refused_row.Reads as refused-row-reads
-use Rattle.listing.proofs.rows.time_row.Reads as time-row-reads
-use Rattle.record.proofs.rule.refusal.Reads as refusal-reads
 
--- src/rows.rt:150:31
 enum-known-answer : tie.Need-enum-known-answer
 enum-known-answer c = search needs
 
--- src/rows.rt:150:42
 refused-row-requires : tie.Need-refused-row-requires
 refused-row-requires c κs = search needs
 
--- src/rows.rt:150:42
 lay-requires : tie.Need-lay-requires
-lay-requires c κs = ?
+lay-requires c κs = small-enough _ _ (c .before .refused-row .ensures) (refused-short (c .before .before .before .before .before .before .args .start) (omega arith) _ (omega arith))
 
--- src/rows.rt:151:28
 enum-known-answer-2 : tie.Need-enum-known-answer-2
 enum-known-answer-2 c = search needs
 
--- src/rows.rt:152:17
 refusal-requires : tie.Need-refusal-requires
 refusal-requires c κs = search needs
 
--- src/rows.rt:154:17
 returns : tie.Need-returns
-returns c = ?
+returns c =
+    ap (λ a. laid (rowOf (c .before .before .before .before .before .before .args .start) a) (c .before .before .before .before .before .before .args .out .now)) (c .before .before .before .answer2 .given .1)
+    ∙ rule-refuses (c .before .before .before .before .before .before .args .start) (c .before .before .before .answer2 .given .0 .0) (c .before .before .before .before .before .before .args .out .now) _ (c .before .refusal .ensures) (c .if1 .taken)
 
--- src/rows.rt:157:31
 enum-known-rec : tie.Need-enum-known-rec
 enum-known-rec c = search needs
 
--- src/rows.rt:158:21
 dated-row-requires : tie.Need-dated-row-requires
 dated-row-requires c κs = search needs
 
--- src/rows.rt:158:21
 lay-requires-2 : tie.Need-lay-requires-2
-lay-requires-2 c κs = ?
+lay-requires-2 c κs = small-enough _ _ (c .before .dated-row .ensures) (dated-short (c .before .before .before .before .before .before .before .before .before .before .before .args .start) (omega arith) _ _ _ _ _)
 
--- src/rows.rt:160:34
 enum-known-rec-2 : tie.Need-enum-known-rec-2
 enum-known-rec-2 c = search needs
 
--- src/rows.rt:160:51
 time-row-requires : tie.Need-time-row-requires
 time-row-requires c κs = search needs
 
--- src/rows.rt:160:51
 lay-requires-3 : tie.Need-lay-requires-3
-lay-requires-3 c κs = ?
+lay-requires-3 c κs = small-enough _ _ (c .before .time-row .ensures) (time-short (c .before .before .before .before .before .before .before .before .before .before .before .args .start) (omega arith) _ _)
 
--- src/rows.rt:146:1
 same-length : tie.Need-same-length
 same-length c = search needs
 
--- src/rows.rt:146:1
 returns-2 : tie.Need-returns-2
-returns-2 c = ?
+returns-2 c =
+    let out = c .before .before .before .before .before .before .before .before .before .args .out .now in
+    ap (λ a. laid (rowOf (c .before .before .before .before .before .before .before .before .before .args .start) a) out) (c .before .before .before .before .before .before .answer .given .1)
+    ∙ row-laid _ _ (c .before .before .before .before .refused-row .ensures) (refused-short (c .before .before .before .before .before .before .before .before .before .args .start) (omega arith) _ (omega (arith, c .before .before .before .before .before .known-told .given))) out (c .before .before .lay .ensures)
 
--- src/rows.rt:146:1
 same-length-2 : tie.Need-same-length-2
 same-length-2 c = search needs
 
--- src/rows.rt:146:1
 returns-3 : tie.Need-returns-3
-returns-3 c = ?
+returns-3 c =
+    let start = c .before .before .before .before .before .before .before .before .before .before .before .before .before .before .args .start in
+    let out = c .before .before .before .before .before .before .before .before .before .before .before .before .before .before .args .out .now in
+    let none = rw (c .before .before .before .before .before .before .rec .given .1) at (sym (c .before .before .before .before .before .before .before .before .before .refusal .ensures) ∙ c .before .before .before .before .before .before .before .before .if1 .left) in
+    ap (λ a. laid (rowOf start a) out) (c .before .before .before .before .before .before .before .before .before .before .before .answer2 .given .1 ∙ ap Good (c .before .before .before .before .before .before .rec .given .1))
+    ∙ ap (λ o. laid o out) (does _ none)
+    ∙ row-laid _ _ (c .before .before .before .before .dated-row .ensures) (dated-short start (omega arith) _ _ _ _ _) out (c .before .before .lay2 .ensures)
 
--- src/rows.rt:146:1
 same-length-3 : tie.Need-same-length-3
 same-length-3 c = search needs
 
--- src/rows.rt:146:1
 returns-4 : tie.Need-returns-4
-returns-4 c = ?
+returns-4 c =
+    let start = c .before .before .before .before .before .before .before .before .before .before .before .before .before .before .args .start in
+    let out = c .before .before .before .before .before .before .before .before .before .before .before .before .before .before .args .out .now in
+    let none = rw (c .before .before .before .before .before .before .rec2 .given .1) at (sym (c .before .before .before .before .before .before .before .before .before .refusal .ensures) ∙ c .before .before .before .before .before .before .before .before .if1 .left) in
+    ap (λ a. laid (rowOf start a) out) (c .before .before .before .before .before .before .before .before .before .before .before .answer2 .given .1 ∙ ap Good (c .before .before .before .before .before .before .rec2 .given .1))
+    ∙ ap (λ o. laid o out) (does _ none)
+    ∙ row-laid _ _ (c .before .before .before .before .time-row .ensures) (time-short start (omega arith) _ _) out (c .before .before .lay3 .ensures)
 
 pub row-spec : {M : Type 1} → statement M
 row-spec =
