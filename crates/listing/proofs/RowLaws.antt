@@ -1,13 +1,13 @@
 -- Laws of the rows: none is longer than 69 bytes. Assumes nothing.
-use mathlib.Core.Path.{_≡_, refl}
+use mathlib.Core.Path.{_≡_, refl, ap, sym, _∙_}
 use mathlib.Core.Bool.{Bool, true, false, cond}
-use mathlib.Core.List.{List, [], _∷_, _++_}
-use Prim.Native.Nat.{ℕ, suc, _+_, _^_, _≤_, _<_}
+use mathlib.Core.List.{List, []}
+use Prim.Native.Nat.{ℕ, _^_, _≤_, _<_}
 use native.Mathlib.Omega.{arith}
 use lib.Dec.{lit≤}
 use lib.ListN.{length, length-append}
-use Rattle.refusals.specs.Refusals.{refused}
-use Rattle.refusals.proofs.Laws.{refuses}
+use Rattle.refusals.specs.Refusals.{done, refused}
+use Rattle.refusals.proofs.Laws.{refuses, does}
 use Rattle.calendar.specs.declared.date.Date.{Date}
 use Rattle.calendar.specs.declared.time.Time.{Time}
 use Rattle.record.specs.declared.DatedLayout.{DatedLayout}
@@ -18,6 +18,7 @@ use Rattle.record.specs.declared.Reception.{Reception}
 use Rattle.record.specs.declared.Reception.the-variants.{Invalid, Crystal, Radio, High}
 use Rattle.record.specs.declared.Status.{Status}
 use Rattle.record.specs.declared.Record.{Record}
+use Rattle.record.specs.declared.RecordAnswer.{RecordAnswer}
 use Rattle.record.specs.declared.RecordAnswer.the-variants as answer
 use Rattle.record.specs.Rule.{refusalOf}
 use Rattle.listing.specs.Ascii.{ascii}
@@ -92,3 +93,9 @@ pub rule-refuses : (start : ℕ) (rec : Record) (out : List ℕ) (n : ℕ) → n
     → laid (rowOf start (answer.Good rec)) out ≡ (refused n, out)
 unfolding laid
 rule-refuses start rec out n e some = rw (← refuses (recordRow start rec) e some)
+
+-- and any other has the row of its layout
+pub rule-passes : (start : ℕ) (outcome : RecordAnswer) (rec same : Record) (n : ℕ) → outcome ≡ answer.Good rec → rec ≡ same
+    → n ≡ refusalOf rec → n ≡ 0 → rowOf start outcome ≡ done (recordRow start same)
+rule-passes start outcome rec same n told is e none =
+    ap (rowOf start) told ∙ does (recordRow start rec) (sym e ∙ none) ∙ ap (λ r. done (recordRow start r)) is

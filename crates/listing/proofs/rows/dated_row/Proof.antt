@@ -49,7 +49,13 @@ push-requires-7 c κs = search needs
 
 returns : tie.Need-returns
 unfolding datedRow
-returns c = from-empty _ (c .before .before .before .before .before .before .before .before .before .before .before .before .before .empty .ensures) (behind _ _ _ (behind _ _ _ (behind _ _ _ (behind _ _ _ (behind _ _ _ (behind _ _ _ (behind _ _ _ (behind _ _ _ (behind _ _ _ (behind _ _ _ (behind _ _ _ (c .before .before .before .before .before .before .before .before .before .before .before .before .decimal .ensures) (c .before .before .before .before .before .before .before .before .before .before .before .push .ensures)) (c .before .before .before .before .before .before .before .before .before .before .dated-kind .ensures)) (c .before .before .before .before .before .before .before .before .before .push2 .ensures)) (c .before .before .before .before .before .before .before .before .date-column .ensures)) (c .before .before .before .before .before .before .before .push3 .ensures)) (c .before .before .before .before .before .before .time-column .ensures)) (c .before .before .before .before .before .push4 .ensures)) (as-byte _ (c .before .before .before .before .digit .ensures) (c .before .before .before .push5 .ensures))) (c .before .before .push6 .ensures)) (c .before .status-column .ensures)) (c .push7 .ensures))
+returns c =
+    let started = behind _ _ _ (c .before .before .before .before .before .before .before .before .before .before .before .before .decimal .ensures) (c .before .before .before .before .before .before .before .before .before .before .before .push .ensures) in
+    let kind = behind _ _ _ (behind _ _ _ started (c .before .before .before .before .before .before .before .before .before .before .dated-kind .ensures)) (c .before .before .before .before .before .before .before .before .before .push2 .ensures) in
+    let day = behind _ _ _ (behind _ _ _ kind (c .before .before .before .before .before .before .before .before .date-column .ensures)) (c .before .before .before .before .before .before .before .push3 .ensures) in
+    let second = behind _ _ _ (behind _ _ _ day (c .before .before .before .before .before .before .time-column .ensures)) (c .before .before .before .before .before .push4 .ensures) in
+    let week = behind _ _ _ (behind _ _ _ second (as-byte _ (c .before .before .before .before .digit .ensures) (c .before .before .before .push5 .ensures))) (c .before .before .push6 .ensures) in
+    from-empty _ (c .before .before .before .before .before .before .before .before .before .before .before .before .before .empty .ensures) (behind _ _ _ (behind _ _ _ week (c .before .status-column .ensures)) (c .push7 .ensures))
 
 pub dated-row-spec : {M : Type 1} → statement M
 dated-row-spec =

@@ -1,12 +1,9 @@
 -- `listing::rows::row` meets its contract.
-use mathlib.Core.Path.{refl, sym, ap, _∙_}
+use mathlib.Core.Path.{ap, _∙_}
 use native.Mathlib.Omega.{arith}
-use Rattle.refusals.proofs.Laws.{does}
-use Rattle.record.specs.declared.RecordAnswer.the-variants.{Good}
-use Rattle.record.specs.Rule.{refusalOf}
-use Rattle.listing.specs.Listing.{recordRow, rowOf, laid}
+use Rattle.listing.specs.Listing.{rowOf, laid}
 use Rattle.listing.proofs.TextLaws.{small-enough, row-laid}
-use Rattle.listing.proofs.RowLaws.{rule-refuses, dated-short, time-short, refused-short}
+use Rattle.listing.proofs.RowLaws.{rule-refuses, rule-passes, dated-short, time-short, refused-short}
 use borrow.Author.Needs.{needs}
 use Rattle.listing.proofs.rows.row.Statement.{statement}
 use Rattle.listing.proofs.rows.row.Tie as tie
@@ -28,8 +25,10 @@ refusal-requires c κs = search needs
 
 returns : tie.Need-returns
 returns c =
-    ap (λ a. laid (rowOf (c .before .before .before .before .before .before .args .start) a) (c .before .before .before .before .before .before .args .out .now)) (c .before .before .before .answer2 .given .1)
-    ∙ rule-refuses (c .before .before .before .before .before .before .args .start) (c .before .before .before .answer2 .given .0 .0) (c .before .before .before .before .before .before .args .out .now) _ (c .before .refusal .ensures) (c .if1 .taken)
+    let start = c .before .before .before .before .before .before .args .start in
+    let out = c .before .before .before .before .before .before .args .out .now in
+    ap (λ a. laid (rowOf start a) out) (c .before .before .before .answer2 .given .1)
+    ∙ rule-refuses start (c .before .before .before .answer2 .given .0 .0) out _ (c .before .refusal .ensures) (c .if1 .taken)
 
 enum-known-rec : tie.Need-enum-known-rec
 enum-known-rec c = search needs
@@ -54,9 +53,10 @@ same-length c = search needs
 
 returns-2 : tie.Need-returns-2
 returns-2 c =
+    let start = c .before .before .before .before .before .before .before .before .before .args .start in
     let out = c .before .before .before .before .before .before .before .before .before .args .out .now in
-    ap (λ a. laid (rowOf (c .before .before .before .before .before .before .before .before .before .args .start) a) out) (c .before .before .before .before .before .before .answer .given .1)
-    ∙ row-laid _ _ (c .before .before .before .before .refused-row .ensures) (refused-short (c .before .before .before .before .before .before .before .before .before .args .start) (omega arith) _ (omega (arith, c .before .before .before .before .before .known-told .given))) out (c .before .before .lay .ensures)
+    ap (λ a. laid (rowOf start a) out) (c .before .before .before .before .before .before .answer .given .1)
+    ∙ row-laid _ _ (c .before .before .before .before .refused-row .ensures) (refused-short start (omega arith) _ (omega (arith, c .before .before .before .before .before .known-told .given))) out (c .before .before .lay .ensures)
 
 same-length-2 : tie.Need-same-length-2
 same-length-2 c = search needs
@@ -65,9 +65,8 @@ returns-3 : tie.Need-returns-3
 returns-3 c =
     let start = c .before .before .before .before .before .before .before .before .before .before .before .before .before .before .args .start in
     let out = c .before .before .before .before .before .before .before .before .before .before .before .before .before .before .args .out .now in
-    let none = rw (c .before .before .before .before .before .before .rec .given .1) at (sym (c .before .before .before .before .before .before .before .before .before .refusal .ensures) ∙ c .before .before .before .before .before .before .before .before .if1 .left) in
-    ap (λ a. laid (rowOf start a) out) (c .before .before .before .before .before .before .before .before .before .before .before .answer2 .given .1 ∙ ap Good (c .before .before .before .before .before .before .rec .given .1))
-    ∙ ap (λ o. laid o out) (does _ none)
+    ap (λ o. laid o out)
+    (rule-passes start _ _ _ _ (c .before .before .before .before .before .before .before .before .before .before .before .answer2 .given .1) (c .before .before .before .before .before .before .rec .given .1) (c .before .before .before .before .before .before .before .before .before .refusal .ensures) (c .before .before .before .before .before .before .before .before .if1 .left))
     ∙ row-laid _ _ (c .before .before .before .before .dated-row .ensures) (dated-short start (omega arith) _ _ _ _ _) out (c .before .before .lay2 .ensures)
 
 same-length-3 : tie.Need-same-length-3
@@ -77,9 +76,8 @@ returns-4 : tie.Need-returns-4
 returns-4 c =
     let start = c .before .before .before .before .before .before .before .before .before .before .before .before .before .before .args .start in
     let out = c .before .before .before .before .before .before .before .before .before .before .before .before .before .before .args .out .now in
-    let none = rw (c .before .before .before .before .before .before .rec2 .given .1) at (sym (c .before .before .before .before .before .before .before .before .before .refusal .ensures) ∙ c .before .before .before .before .before .before .before .before .if1 .left) in
-    ap (λ a. laid (rowOf start a) out) (c .before .before .before .before .before .before .before .before .before .before .before .answer2 .given .1 ∙ ap Good (c .before .before .before .before .before .before .rec2 .given .1))
-    ∙ ap (λ o. laid o out) (does _ none)
+    ap (λ o. laid o out)
+    (rule-passes start _ _ _ _ (c .before .before .before .before .before .before .before .before .before .before .before .answer2 .given .1) (c .before .before .before .before .before .before .rec2 .given .1) (c .before .before .before .before .before .before .before .before .before .refusal .ensures) (c .before .before .before .before .before .before .before .before .if1 .left))
     ∙ row-laid _ _ (c .before .before .before .before .time-row .ensures) (time-short start (omega arith) _ _) out (c .before .before .lay3 .ensures)
 
 pub row-spec : {M : Type 1} → statement M

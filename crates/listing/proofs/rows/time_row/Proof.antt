@@ -34,7 +34,10 @@ append-requires-2 c κs = search needs
 
 returns : tie.Need-returns
 unfolding timeRow
-returns c = from-empty _ (c .before .before .before .before .before .before .before .before .empty .ensures) (behind _ _ _ (behind _ _ _ (behind _ _ _ (behind _ _ _ (behind _ _ _ (c .before .before .before .before .before .before .before .decimal .ensures) (c .before .before .before .before .before .before .push .ensures)) (c .before .before .before .before .before .time-kind .ensures)) (c .before .before .before .append .ensures)) (c .before .before .time-column .ensures)) (c .append2 .ensures))
+returns c =
+    let started = behind _ _ _ (c .before .before .before .before .before .before .before .decimal .ensures) (c .before .before .before .before .before .before .push .ensures) in
+    let kind = behind _ _ _ (behind _ _ _ started (c .before .before .before .before .before .time-kind .ensures)) (c .before .before .before .append .ensures) in
+    from-empty _ (c .before .before .before .before .before .before .before .before .empty .ensures) (behind _ _ _ (behind _ _ _ kind (c .before .before .time-column .ensures)) (c .append2 .ensures))
 
 pub time-row-spec : {M : Type 1} → statement M
 time-row-spec =
