@@ -1,0 +1,106 @@
+-- Laws of a row in the making. Assumes nothing.
+use mathlib.Core.Path.{_≡_, refl, ap, sym, _∙_}
+use mathlib.Core.List.{List, [], _∷_, _++_, append-nil}
+use Prim.Native.Nat.{ℕ, suc, _+_, _≤_, _<_}
+use native.Mathlib.Numerals.{add-one}
+use native.Mathlib.Omega.{arith}
+use lib.ListN.{length, take, drop, getD, set, length-set, length-append, drop-of-length-le}
+use lib.Seq.{take-suc, take-suc-set, drop-cons, set-at, length-take-le, append-snoc}
+use borrow.Author.Tests.{lt-ltb, le-ltb}
+use Rattle.refusals.specs.Refusals.{Outcome, done, refused}
+use Rattle.listing.specs.declared.Text.{Text}
+use Rattle.listing.specs.Listing.{laid}
+use Rattle.listing.specs.Texts.{emptyText, pushed, appended, contentOf}
+
+appended-twice : (text : Text) (xs ys : List ℕ) → appended text (xs ++ ys) ≡ appended (appended text xs) ys
+unfolding appended
+appended-twice text [] ys = refl
+appended-twice text (x ∷ xs) ys = appended-twice (pushed text x) xs ys
+
+-- one part behind another
+pub behind : {next last : Text} (text : Text) (xs ys : List ℕ) → next ≡ appended text xs → last ≡ appended next ys
+    → last ≡ appended text (xs ++ ys)
+behind text xs ys e f = f ∙ ap (λ t. appended t ys) e ∙ sym (appended-twice text xs ys)
+
+pub from-empty : {text last : Text} (row : List ℕ) → text ≡ emptyText → last ≡ appended text row → last ≡ appended emptyText row
+from-empty row e f = f ∙ ap (λ t. appended t row) e
+
+-- a byte that is known by another name
+pub as-byte : {next : Text} {b byte : ℕ} (text : Text) → b ≡ byte → next ≡ appended text (b ∷ []) → next ≡ appended text (byte ∷ [])
+as-byte text e f = f ∙ ap (λ b. appended text (b ∷ [])) e
+
+-- a word put behind a text byte by byte
+pub one-more : (text next : Text) (word : List ℕ) (at : ℕ) → at < length word → next ≡ appended text (getD word at 0 ∷ [])
+    → appended next (drop (at + 1) word) ≡ appended text (drop at word)
+one-more text next word at h e =
+    ap (λ t. appended t (drop (at + 1) word)) e
+    ∙ sym (appended-twice text (getD word at 0 ∷ []) (drop (at + 1) word))
+    ∙ ap (appended text) (sym (drop-cons word at 0 h ∙ ap (λ n. getD word at 0 ∷ drop n word) (sym (add-one at))))
+
+pub no-more : (text : Text) (word : List ℕ) (at : ℕ) → length word ≤ at → appended text (drop at word) ≡ text
+unfolding appended
+no-more text word at h = rw (drop-of-length-le word {i = at} h)
+
+-- a text that holds some bytes
+pub record Holds (text : Text) (xs : List ℕ) : Type 0 where
+  pub room : length (text .bytes) ≡ 80
+  pub len : text .len ≡ length xs
+  pub content : contentOf text ≡ xs
+
+pushed-holds : (text : Text) (xs : List ℕ) (x : ℕ) → Holds text xs → length xs < 80 → Holds (pushed text x) (xs ++ x ∷ [])
+unfolding pushed
+pushed-holds text xs x h short =
+    let fits : text .len < 80 = omega (arith, h .len) in
+    let room = h .room in
+    rw (lt-ltb (text .len) 80 fits)
+    (record {
+      room = length-set (text .bytes) (text .len) x ∙ h .room;
+      len = omega (arith, h .len, length-append xs (x ∷ []));
+      content =
+          ap (λ n. take n (set (text .bytes) (text .len) x)) (add-one (text .len))
+          ∙ take-suc-set (text .bytes) (text .len) x (omega arith)
+          ∙ ap (λ l. l ++ x ∷ []) (h .content);
+    })
+
+appended-holds : (text : Text) (xs ys : List ℕ) → Holds text xs → length xs + length ys ≤ 80 → Holds (appended text ys) (xs ++ ys)
+unfolding appended
+appended-holds text xs [] h short = rw (append-nil xs) h
+appended-holds text xs (y ∷ ys) h short =
+    rw (← append-snoc xs y ys)
+    (appended-holds (pushed text y) (xs ++ y ∷ []) ys (pushed-holds text xs y h (omega arith)) (omega (arith, length-append xs (y ∷ []))))
+
+-- a row that is short enough stands whole
+pub holds : (text : Text) (row : List ℕ) → text ≡ appended emptyText row → length row ≤ 80 → Holds text row
+holds text row e short =
+    rw e (appended-holds emptyText [] row (record { room = refl; len = refl; content = refl }) (omega arith))
+
+-- so that it can be laid, and is what is laid; no row is longer than 69 bytes
+module _ (text : Text) (row : List ℕ) (made : text ≡ appended emptyText row) (short : length row ≤ 69) where
+  pub small-enough : text .len ≤ 80
+  small-enough = omega (arith, holds text row made (omega arith) .len)
+
+  pub row-laid : {answer : Outcome ℕ × List ℕ} (out : List ℕ) → laid (done (contentOf text)) out ≡ answer → laid (done row) out ≡ answer
+  row-laid out e = ap (λ bytes. laid (done bytes) out) (sym (holds text row made (omega arith) .content)) ∙ e
+
+-- copying byte by byte over the first bytes of a buffer
+pub copy-step : (from out : List ℕ) (at : ℕ) → at < length from → at < length out
+    → set (take at from ++ drop at out) at (getD from at 0) ≡ take (at + 1) from ++ drop (at + 1) out
+copy-step from out at f o =
+    rw (add-one at, drop-cons out at 0 o)
+    (set-at (take at from) (getD out at 0) (drop (suc at) out) (getD from at 0) at (length-take-le at from (omega arith))
+    ∙ sym (append-snoc (take at from) (getD from at 0) (drop (suc at) out))
+    ∙ ap (λ l. l ++ drop (suc at) out) (sym (take-suc from at 0 f)))
+
+-- The ways in which a text is laid.
+module _ (text : Text) (out : List ℕ) (bound : length (text .bytes) ≡ 80) (small : text .len ≤ 80) where
+  size : length (contentOf text) ≡ text .len
+  size = length-take-le (text .len) (text .bytes) (omega arith)
+
+  pub no-room : length out < text .len → laid (done (contentOf text)) out ≡ (refused 13, out)
+  unfolding laid
+  no-room short = rw (size, lt-ltb _ _ short)
+
+  pub all-laid : (last : List ℕ) (at : ℕ) → text .len ≤ length out → at ≡ text .len → last ≡ take at (text .bytes) ++ drop at out
+      → laid (done (contentOf text)) out ≡ (done (text .len), last)
+  unfolding laid
+  all-laid last at fits end e = rw (size, le-ltb _ _ fits, e, end)

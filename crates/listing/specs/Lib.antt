@@ -1,0 +1,5 @@
+pub mod Ascii
+pub mod Decimals
+pub mod Listing
+pub mod Texts
+pub mod Answers

@@ -1,0 +1,120 @@
+// The listing: each row as bytes in a lent buffer.
+pub mod rows;
+
+use refusals::BUFFER_SHORT;
+ghost use mathlib.Core.Path.{_≡_};
+ghost use mathlib.Core.Bool.{cond};
+ghost use mathlib.Core.List.{[], _∷_};
+ghost use Prim.Native.Nat.{_≤_};
+ghost use Rattle.refusals.specs.Refusals.{done};
+ghost use Rattle.listing.specs.Decimals.{digit, two, four, decimal};
+ghost use Rattle.listing.specs.Listing.{laid};
+ghost use Rattle.listing.specs.Texts.{emptyText, appended, contentOf};
+ghost use Rattle.listing.specs.Answers.{rowAnswer};
+
+pub enum RowAnswer {
+    Written(usize),
+    Refused(u8),
+}
+
+// A row in the making. The longest row has 69 bytes, so none is ever cut off.
+struct Text {
+    bytes: [u8; 80],
+    len: usize,
+}
+
+// The character of a number's last digit.
+fn digit(n: u32) -> u8
+    ensures { λ r. ⌜ r ≡ digit n ⌝ }
+{
+    b'0' + (n % 10) as u8
+}
+
+impl Text {
+    fn empty() -> Text
+        ensures { λ r. ⌜ r ≡ emptyText ⌝ }
+    {
+        Text {
+            bytes: [0u8; 80],
+            len: 0,
+        }
+    }
+
+    fn push(self, byte: u8) -> Text
+        ensures { λ r. ⌜ r ≡ appended self (byte ∷ []) ⌝ }
+    {
+        let len = self.len;
+        if len < 80 {
+            let mut bytes = self.bytes;
+            bytes[len] = byte;
+            return Text {
+                bytes: bytes,
+                len: len + 1,
+            };
+        }
+        self
+    }
+
+    fn append(self, word: &[u8]) -> Text
+        ensures { λ r. ⌜ r ≡ appended self (now (word .entry)) ⌝ }
+    {
+        let mut text = self;
+        let mut at: usize = 0;
+        while at < word.len() {
+            text = text.push(word[at]);
+            at += 1;
+        }
+        text
+    }
+
+    fn append_if(self, wanted: bool, word: &[u8]) -> Text
+        ensures { λ r. ⌜ r ≡ appended self (cond wanted (now (word .entry)) []) ⌝ }
+    {
+        if wanted {
+            return self.append(word);
+        }
+        self
+    }
+
+    // All digits of a number, without padding.
+    fn decimal(self, n: u32) -> Text
+        ensures { λ r. ⌜ r ≡ appended self (decimal n) ⌝ }
+    {
+        if n < 10 {
+            return self.push(digit(n));
+        }
+        self.decimal(n / 10).push(digit(n))
+    }
+
+    // The last two digits, padded.
+    fn two(self, n: u32) -> Text
+        ensures { λ r. ⌜ r ≡ appended self (two n) ⌝ }
+    {
+        self.push(digit(n / 10)).push(digit(n))
+    }
+
+    // The last four digits, padded.
+    fn four(self, n: u32) -> Text
+        ensures { λ r. ⌜ r ≡ appended self (four n) ⌝ }
+    {
+        self.two(n / 100).two(n)
+    }
+
+    // Lays the text at the front of the buffer, if there is room for it.
+    fn lay(self, out: &mut [u8]) -> RowAnswer
+        requires { ⌜ self .len ≤ 80 ⌝ }
+        ensures { λ r. ⌜ laid (done (contentOf self)) (now (out .entry)) ≡ (rowAnswer r, now (out .exit)) ⌝ }
+    {
+        let bytes = self.bytes;
+        let len = self.len;
+        if out.len() < len {
+            return RowAnswer::Refused(BUFFER_SHORT);
+        }
+        let mut at: usize = 0;
+        while at < len {
+            out[at] = bytes[at];
+            at += 1;
+        }
+        RowAnswer::Written(len)
+    }
+}
