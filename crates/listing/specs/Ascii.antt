@@ -4,7 +4,7 @@ use Prim.Native.Nat.{ℕ}
 use Prim.Native.Char.{code}
 use Prim.Native.String.{String, [], _∷_}
 
--- the code of each character
+-- the code of each character; all of them are ASCII, where the code is the byte
 abbrev pub ascii : String → List ℕ
 ascii [] = none
 ascii (character ∷ characters) = code character then ascii characters

@@ -21,7 +21,7 @@ unfoldable pub decimalWithin : ℕ → ℕ → List ℕ
 decimalWithin zero n = digit n ∷ []
 decimalWithin (suc steps) n = elim (ltb n 10) [ true ↦ digit n ∷ [] | false ↦ decimalWithin steps (n / 10) ++ digit n ∷ [] ]
 
--- a number has fewer digits than it counts, but for 0
+-- as many steps as the number itself are always enough
 unfoldable pub decimal : ℕ → List ℕ
 decimal n = decimalWithin n n
 

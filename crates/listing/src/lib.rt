@@ -40,6 +40,7 @@ impl Text {
         }
     }
 
+    // One byte more. What goes beyond the room is dropped.
     fn push(self, byte: u8) -> Text
         ensures { λ r. ⌜ r ≡ appended self (byte ∷ []) ⌝ }
     {
