@@ -8,6 +8,7 @@ import sys
 
 sys.dont_write_bytecode = True  # leaves no files behind
 
+import captures
 import cases
 
 CRATES = pathlib.Path(__file__).resolve().parent.parent / "crates"
@@ -18,6 +19,9 @@ def made():
     every = list(cases.all_cases())
     yield "cases/stdin", b"".join(given for given, _ in every)
     yield "cases/stdout", b"".join(expected for _, expected in every)
+    lines = list(captures.all_lines())
+    yield "lines/stdin", b"".join(given for given, _ in lines)
+    yield "lines/stdout", b"".join(expected for _, expected in lines)
 
 
 def main(mode):

@@ -96,7 +96,7 @@ cut-independence a b line good same used-a used-b =
     (of-a .0 ∙ ap (eventsOf line) same ∙ sym (of-b .0), of-a .1 ∙ ap (λ bytes. readerOf (lineAfter line bytes)) same ∙ sym (of-b .1))
 
 -- such a feeding always is: a call takes at least one byte of a piece that has one
-some-by : (told : Told) (start : ℕ) (next : Line) (on : Feeding) → 0 < stopOr told start next on .taken
+pub some-by : (told : Told) (start : ℕ) (next : Line) (on : Feeding) → 0 < stopOr told start next on .taken
 some-by nothing start next on = omega arith
 some-by (event outcome size) start next on = omega arith
 

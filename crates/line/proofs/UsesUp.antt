@@ -1,12 +1,12 @@
 -- A piece that is used up by `use_up` is a feeding like any caller's, so every law about cuts holds of it. Assumes nothing.
 use mathlib.Core.Path.{_≡_, refl, ap, sym, _∙_, subst⁻¹}
 use mathlib.Core.List.{List, [], _∷_}
-use Prim.Native.Nat.{ℕ, zero, suc, _+_, _≤_}
+use Prim.Native.Nat.{ℕ, zero, suc, _+_, _-_, _≤_, _<_}
 use Prim.{Unit, tt}
 use native.Mathlib.Numerals.{add-one}
 use native.Mathlib.Omega.{arith}
-use lib.ListN.{length, drop}
-use lib.Seq.{drop-drop}
+use lib.ListN.{length, take, drop}
+use lib.Seq.{drop-drop, take-add}
 use Rattle.line.specs.declared.Reader.{Reader}
 use Rattle.line.specs.declared.Fed.{Fed}
 use Rattle.line.specs.declared.Heard.{Heard}
@@ -16,7 +16,7 @@ use Rattle.line.specs.Cuts.{Calls, calls, eventsOf, lineAfter}
 use Rattle.line.specs.Pieces.{Passing, passOn, passing}
 use Rattle.line.proofs.Wraps.{feed-reader}
 use Rattle.line.proofs.StaysGood.{Good, good-feed}
-use Rattle.line.proofs.CutLaws.{after-call, shorter, calls-tell}
+use Rattle.line.proofs.CutLaws.{after-call, some-by, shorter, calls-tell, after-join}
 
 -- how many calls are made with room for so many events
 abbrev callsAfter : Heard → ℕ → ℕ
@@ -101,3 +101,62 @@ uses-up room line good piece fits =
     let called = is-a-loop room line good piece in
     let told = calls-tell (callsMade room (readerOf line) piece) line good piece (sym (called .2) ∙ nothing-left room line good piece fits) in
     (called .0 ∙ told .0, called .1 ∙ told .1)
+
+-- of any piece: the reader is that of the bytes taken, and of a piece that has a byte at least one is taken
+line-by : (told : Told) (start byte : ℕ) (next : Line) (on : Feeding) (piece : List ℕ) → on .line ≡ lineAfter next (take (on .taken) piece)
+    → stopOr told start next on .line ≡ lineAfter next (take (stopOr told start next on .taken - 1) piece)
+line-by nothing start byte next on piece h =
+    let one : on .taken ≡ on .taken + 1 - 1 = omega arith in
+    h ∙ ap (λ n. lineAfter next (take n piece)) one
+line-by (event outcome size) start byte next on piece h = refl
+
+taken-line : (line : Line) (piece : List ℕ) → feedOf line piece .line ≡ lineAfter line (take (feedOf line piece .taken) piece)
+taken-line line [] = refl
+taken-line line (byte ∷ piece) =
+    let told = toldBy (line .held) byte in
+    let next = step line byte in
+    let feeding = stopOr told (startOf line) next (feedOf next piece) in
+    let one : suc (feeding .taken - 1) ≡ feeding .taken = omega (arith, some-by told (startOf line) next (feedOf next piece)) in
+    line-by told (startOf line) byte next (feedOf next piece) piece (taken-line next piece)
+    ∙ ap (λ n. lineAfter line (take n (byte ∷ piece))) one
+
+reads-by : (told : Told) (at taken : ℕ) (line next : Line) (later : Passing) (piece : List ℕ) → next ≡ lineAfter line (take taken piece)
+    → later .reader ≡ readerOf (lineAfter next (take (later .taken) (drop taken piece)))
+    → let passing = passOn (heardFor told at) (record { reader = readerOf next; taken = taken; heard = heardFor told at }) later in
+    passing .reader ≡ readerOf (lineAfter line (take (passing .taken) piece))
+reads-by nothing at taken line next later piece here on = ap readerOf here
+reads-by (event outcome size) at taken line next later piece here on =
+    on
+    ∙ ap (λ l. readerOf (lineAfter l (take (later .taken) (drop taken piece)))) here
+    ∙ ap readerOf (sym (after-join line (take taken piece) (take (later .taken) (drop taken piece))))
+    ∙ ap (λ bytes. readerOf (lineAfter line bytes)) (sym (take-add taken (later .taken) piece))
+
+pub reads-taken : (room : ℕ) (line : Line) → Good line → (piece : List ℕ)
+    → passing room (readerOf line) piece .reader ≡ readerOf (lineAfter line (take (passing room (readerOf line) piece .taken) piece))
+unfolding passing
+reads-taken zero line good piece = refl
+reads-taken (suc room) line good piece =
+    let feeding = feedOf line piece in
+    let rest = drop (feeding .taken) piece in
+    let on = reads-taken room (feeding .line) (good-feed line piece good) rest in
+    let reader = readerOf (feeding .line) in
+    rw (feed-reader (line .held) (line .fed) (line .stray) (good .fits) (good .started) piece)
+    (reads-by (feeding .told) (feeding .at) (feeding .taken) line (feeding .line) (passing room reader rest) piece (taken-line line piece) on)
+
+takes-by : (heard : Heard) (fed : Fed) (later : Passing) → fed .taken ≤ passOn heard fed later .taken
+takes-by Nothing fed later = omega arith
+takes-by (Event answer start size) fed later = omega arith
+takes-by (Refused number) fed later = omega arith
+
+pub takes-some : (room : ℕ) (line : Line) → Good line → (piece : List ℕ) → 0 < length piece → 0 < passing (suc room) (readerOf line) piece .taken
+unfolding passing
+takes-some room line good [] some = absurd (omega arith)
+takes-some room line good (byte ∷ piece) some =
+    let fed = feedReader (readerOf line) (byte ∷ piece) in
+    let same = ap (λ f. f .taken) (feed-reader (line .held) (line .fed) (line .stray) (good .fits) (good .started) (byte ∷ piece)) in
+    omega (
+      arith,
+      takes-by (fed .heard) fed (passing room (fed .reader) (drop (fed .taken) (byte ∷ piece))),
+      same,
+      some-by (toldBy (line .held) byte) (startOf line) (step line byte) (feedOf (step line byte) piece),
+    )

@@ -19,7 +19,7 @@ pub struct Page {
 }
 
 // The row of what was heard at the front of a buffer.
-fn row_for(heard: Heard, out: &mut [u8]) -> RowAnswer
+pub fn row_for(heard: Heard, out: &mut [u8]) -> RowAnswer
     ensures { λ r. ⌜ laid (rowFor heard) (now (out .entry)) ≡ (rowAnswer r, now (out .exit)) ⌝ }
 {
     match heard {
