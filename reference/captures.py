@@ -1,4 +1,4 @@
-"""Damaged lines for the program `lines`, and the listing that it should print for each.
+"""Lines for the program `lines`, damaged ones and the samples, and the listing that it should print for each.
 
 The program gets a line in pieces: two bytes that say how long a piece is, the higher first, and the piece. 65535 for a length ends
 the line, and what follows is a line of its own.
@@ -7,9 +7,9 @@ the line, and what follows is a line of its own.
 import collections
 import random
 
-import line
 import listing
 import making
+import samples
 from layouts import LAYOUTS
 
 SEED = 6036
@@ -63,7 +63,7 @@ def check(lines):
 def all_lines():
     """Every line, as the program gets it and as it lists it. The last is empty."""
     dice = random.Random(SEED)
-    lines = [damaged_line(dice, BYTES // LINES) for _ in range(LINES)] + [b""]
-    check(lines)
-    for captured in lines:
+    damaged = [damaged_line(dice, BYTES // LINES) for _ in range(LINES)]
+    check(damaged)
+    for captured in damaged + list(samples.SAMPLES.values()) + [b""]:
         yield handed_over(dice, captured), listing.listing(captured)

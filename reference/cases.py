@@ -7,6 +7,7 @@ sys.dont_write_bytecode = True  # leaves no files behind
 
 import days
 import line
+import listing
 import making
 import manual_examples
 import parameter
@@ -21,7 +22,7 @@ from telegrams import Setting
 
 SEED = 1996
 UNTOUCHED = 170   # what a lent buffer holds before
-ONE, MANY = 32, 64   # the program's buffers for one telegram and for several
+ONE, MANY, ROW = 32, 64, 80   # the program's buffers for one telegram, for several, and for a row
 
 SETTINGS = [None] + [Setting(control, advance) for advance in (False, True) for control in (False, True)]
 
@@ -31,6 +32,7 @@ OWN_REFUSALS = {
     "W": {5, 6, 7, 8, 12, 13, 14}, "S": {5, 6, 7, 8, 12, 13, 14},
     "N": {5, 6, 7, 8, 12}, "K": {5, 6, 7, 8, 12, 14}, "U": {5, 6, 7, 8, 12, 14},
     "D": {6, 7}, "d": {12}, "Q": {16},
+    "G": {13},
     "F": {1, 3, 4, 5, 6, 7, 8, 9, 10, 15}, "E": {11, 15},
 }
 
@@ -155,6 +157,16 @@ def end_case(state):
     left, event = ended
     SEEN.note("E", event.outcome if event else None)
     return case("E", state_bytes(state)), printed(event_numbers(event) + state_numbers(left))
+
+
+def row_case(start, answer, room):
+    """A row of the listing to write: of a record, or of a refusal's number."""
+    buffer = bytearray([UNTOUCHED] * room)
+    used, refusal = outcome(listing.write_row, line.Event(start, 0, answer), buffer)
+    SEEN.note("G", refusal)
+    told = bytes([answer]) if isinstance(answer, int) else b"\0" + record_bytes(answer)
+    whole = list(buffer) + [UNTOUCHED] * (ROW - room)
+    return case("G", start.to_bytes(4, "big") + bytes([room]) + told), printed(answer_numbers(used, refusal, lambda used: [used]) + whole)
 
 
 # --- reading ---
@@ -323,6 +335,19 @@ def line_cases(dice):
         yield feed_case(line.fresh(), making.some_telegram(dice, True))
 
 
+# --- the listing ---
+
+def row_cases(dice):
+    """Rows of every layout and status and of refusals, from every kind of start, into buffers from a byte short to more than enough."""
+    starts = [0, 9, 10, 99, 100, 65535, 65536, 999999999, 1000000000, 4294967295]
+    answers = [*one_of_each(), *range(1, 12)] + [making.good_record(dice) for _ in range(200)]
+    for answer in answers:
+        start = dice.choice(starts)
+        size = len(listing.row(line.Event(start, 0, answer)))
+        for room in (0, size - 1, size, ROW):
+            yield row_case(start, answer, room)
+
+
 def all_cases():
     """Every case, in the order in which the program gets them."""
     dice = random.Random(SEED)
@@ -337,4 +362,5 @@ def all_cases():
     yield from calendar_cases()
     yield from parameter_cases()
     yield from line_cases(dice)
+    yield from row_cases(dice)
     SEEN.check()

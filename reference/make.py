@@ -1,4 +1,4 @@
-"""Makes the input and the expected output of the repository's programs.
+"""Makes the input and the expected output of the repository's programs, and the sample captures with their listings.
 
 Run with --write it writes them; with --check it fails where a committed file is not what it makes.
 """
@@ -10,30 +10,35 @@ sys.dont_write_bytecode = True  # leaves no files behind
 
 import captures
 import cases
+import listing
+import samples
 
-CRATES = pathlib.Path(__file__).resolve().parent.parent / "crates"
+ROOT = pathlib.Path(__file__).resolve().parent.parent
 
 
 def made():
-    """Each file below crates/ with its content."""
+    """Each file with its content."""
     every = list(cases.all_cases())
-    yield "cases/stdin", b"".join(given for given, _ in every)
-    yield "cases/stdout", b"".join(expected for _, expected in every)
+    yield "crates/cases/stdin", b"".join(given for given, _ in every)
+    yield "crates/cases/stdout", b"".join(expected for _, expected in every)
     lines = list(captures.all_lines())
-    yield "lines/stdin", b"".join(given for given, _ in lines)
-    yield "lines/stdout", b"".join(expected for _, expected in lines)
+    yield "crates/lines/stdin", b"".join(given for given, _ in lines)
+    yield "crates/lines/stdout", b"".join(expected for _, expected in lines)
+    for name, captured in samples.SAMPLES.items():
+        yield f"samples/{name}.capture", captured
+        yield f"samples/{name}.listing", listing.listing(captured)
 
 
 def main(mode):
     wrong = []
     for name, content in made():
-        path = CRATES / name
+        path = ROOT / name
         if mode == "--write":
             path.write_bytes(content)
         elif not path.exists() or path.read_bytes() != content:
             wrong.append(name)
     for name in wrong:
-        print("crates/" + name, "is not what the second implementation makes")
+        print(name, "is not what the second implementation makes")
     return 1 if wrong else 0
 
 

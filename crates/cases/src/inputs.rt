@@ -10,6 +10,9 @@ use record::TimeLayout;
 use telegram::write::Choice;
 use telegram::write::Setting;
 
+// What a buffer holds before it is lent.
+pub const UNTOUCHED: u8 = 170;
+
 pub fn byte(bytes: &[u8], at: usize) -> u8 {
     if at < bytes.len() {
         return bytes[at];
@@ -137,7 +140,7 @@ fn held(bytes: &[u8]) -> [u8; 24] {
     held
 }
 
-fn wide(n: u8) -> usize {
+pub fn wide(n: u8) -> usize {
     n as usize
 }
 

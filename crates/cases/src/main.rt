@@ -12,11 +12,13 @@
 //   Q        writes a parameter byte: the setting
 //   F        feeds a reader: its state, a piece
 //   E        ends a line: the reader's state
+//   G        writes a row of the listing: its start, the buffer's length, an outcome
 mod boards;
 mod inputs;
 mod lines;
 mod outputs;
 mod records;
+mod rows;
 mod telegrams;
 
 use libc::STDIN_FILENO;
@@ -36,6 +38,7 @@ fn run(letter: u8, bytes: &[u8]) {
         b'Q' => boards::writes(bytes),
         b'F' => lines::feeds(bytes),
         b'E' => lines::ends(bytes),
+        b'G' => rows::writes(bytes),
         _ => {}
     }
     outputs::end_line();
@@ -56,17 +59,13 @@ fn run_first(letter: u8, bytes: &[u8], length: usize) {
     run(letter, &bytes[..length]);
 }
 
-fn wide(n: u8) -> usize {
-    n as usize
-}
-
 // Reads one case and runs it; answers whether there was one.
 fn next_case() -> bool {
     let mut head = [0u8; 2];
     if !read_bytes(&mut head, 2) {
         return false;
     }
-    let length = wide(head[1]);
+    let length = inputs::wide(head[1]);
     let mut bytes = [0u8; 256];
     if !read_bytes(&mut bytes, length) {
         return false;

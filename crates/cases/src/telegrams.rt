@@ -6,9 +6,6 @@ use telegram::several::Several;
 use telegram::write::Choice;
 use telegram::write::WriteAnswer;
 
-// What a buffer holds before it is lent.
-const UNTOUCHED: u8 = 170;
-
 pub fn reads(bytes: &[u8], control: bool) {
     outputs::print_answer(telegram::read::read(bytes, control));
 }
@@ -31,15 +28,11 @@ fn print_written(answer: WriteAnswer) {
     }
 }
 
-fn wide(n: u8) -> usize {
-    n as usize
-}
-
 pub fn writes(bytes: &[u8]) {
     let choice = inputs::choice(inputs::byte(bytes, 0));
-    let room = wide(inputs::byte(bytes, 1));
+    let room = inputs::wide(inputs::byte(bytes, 1));
     let rec = inputs::rec(inputs::behind(bytes, 2));
-    let mut out = [UNTOUCHED; 32];
+    let mut out = [inputs::UNTOUCHED; 32];
     print_written(write_in(&mut out, room, rec, choice));
     outputs::print_bytes(&out);
 }
@@ -54,8 +47,8 @@ fn add_in(out: &mut [u8], room: usize, several: Several, rec: Record, choice: Ch
 
 pub fn writes_several(bytes: &[u8]) {
     let choice = inputs::choice(inputs::byte(bytes, 0));
-    let room = wide(inputs::byte(bytes, 1));
-    let mut out = [UNTOUCHED; 64];
+    let room = inputs::wide(inputs::byte(bytes, 1));
+    let mut out = [inputs::UNTOUCHED; 64];
     let mut several = Several::start();
     let mut at: usize = 2;
     while at < bytes.len() {
