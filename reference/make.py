@@ -24,6 +24,8 @@ def made():
     lines = list(captures.all_lines())
     yield "crates/lines/stdin", b"".join(given for given, _ in lines)
     yield "crates/lines/stdout", b"".join(expected for _, expected in lines)
+    yield "crates/dialspark/stdin", samples.PRINTED
+    yield "crates/dialspark/stdout", listing.listing(samples.PRINTED)
     for name, captured in samples.SAMPLES.items():
         yield f"samples/{name}.capture", captured
         yield f"samples/{name}.listing", listing.listing(captured)

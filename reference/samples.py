@@ -49,4 +49,7 @@ def pump_start():
     ])
 
 
+# The capture whose listing the requirements document prints; selftest.py holds that listing.
+PRINTED = b"x" + stamp_6021(b"E3123456170496") + b"\x0212"
+
 SAMPLES = {"winter": winter(), "nine-deliveries": nine_deliveries(), "pump-start": pump_start()}

@@ -19,6 +19,7 @@ import making
 import manual_examples
 import parameter
 import records
+import samples
 import status
 import telegrams
 from days import Date, Time
@@ -55,8 +56,7 @@ def framed(inner):
 # --- the document's own examples ---
 
 def listing_examples():
-    captured = b"x" + framed(b"E3123456170496" + LF_CR) + STX + b"12"
-    same("listing", listing.listing(captured),
+    same("listing", listing.listing(samples.PRINTED),
          b"start;kind;date;time;weekday;status\n"
          b"1;6021;1996-04-17;12:34:56;3;high,daylight\n"
          b"19;refused 11\n"

@@ -49,14 +49,14 @@ fn read_bytes(bytes: &mut [u8], length: usize) -> bool {
     if bytes.len() < length {
         return false;
     }
-    io::read_full(STDIN_FILENO, &mut bytes[..length]) == length
+    io::read_full(STDIN_FILENO, &mut bytes[0..length]) == length
 }
 
 fn run_first(letter: u8, bytes: &[u8], length: usize) {
     if bytes.len() < length {
         return;
     }
-    run(letter, &bytes[..length]);
+    run(letter, &bytes[0..length]);
 }
 
 // Reads one case and runs it; answers whether there was one.

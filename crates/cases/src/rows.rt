@@ -17,7 +17,7 @@ fn row_in(out: &mut [u8], room: usize, start: u32, answer: RecordAnswer) -> RowA
     if out.len() < room {
         return RowAnswer::Refused(255);
     }
-    listing::rows::row(start, answer, &mut out[..room])
+    listing::rows::row(start, answer, &mut out[0..room])
 }
 
 pub fn writes(bytes: &[u8]) {

@@ -15,7 +15,7 @@ fn write_in(out: &mut [u8], room: usize, rec: Record, choice: Choice) -> WriteAn
     if out.len() < room {
         return WriteAnswer::Refused(255);
     }
-    telegram::write::write(rec, choice, &mut out[..room])
+    telegram::write::write(rec, choice, &mut out[0..room])
 }
 
 fn print_written(answer: WriteAnswer) {
@@ -42,7 +42,7 @@ fn add_in(out: &mut [u8], room: usize, several: Several, rec: Record, choice: Ch
     if out.len() < room {
         return several;
     }
-    several.add(rec, choice, &mut out[..room])
+    several.add(rec, choice, &mut out[0..room])
 }
 
 pub fn writes_several(bytes: &[u8]) {

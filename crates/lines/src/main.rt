@@ -19,7 +19,7 @@ fn read_bytes(bytes: &mut [u8], count: usize) -> bool {
     if bytes.len() < count {
         return false;
     }
-    io::read_full(STDIN_FILENO, &mut bytes[..count]) == count
+    io::read_full(STDIN_FILENO, &mut bytes[0..count]) == count
 }
 
 fn joined(high: u8, low: u8) -> u32 {
@@ -38,7 +38,7 @@ fn give(printer: Printer, piece: &[u8], count: usize) -> Printer {
     if piece.len() < count {
         return printer;
     }
-    printer.piece(&piece[..count])
+    printer.piece(&piece[0..count])
 }
 
 // Reads a piece and gives it to the printer.

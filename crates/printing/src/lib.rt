@@ -21,7 +21,7 @@ fn print(out: &[u8], count: usize) -> bool {
     if out.len() < count {
         return false;
     }
-    if io::write_all(STDOUT_FILENO, &out[..count]) {
+    if io::write_all(STDOUT_FILENO, &out[0..count]) {
         return true;
     }
     os::fail(b"dialspark: the listing cannot be written");
