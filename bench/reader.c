@@ -1,0 +1,240 @@
+/* A plain C reader of the same telegrams and lines, to be measured beside the proved one: the same seven layouts, the same refusals,
+   the same byte by byte reader. It takes what the program `bench` takes, and prints what that prints: a letter, r or l, and then
+   6021 telegrams of 18 bytes to read, or a line to feed. */
+typedef unsigned char byte;
+typedef unsigned int count;
+
+enum { STX = 2, LF = 10, CR = 13, ETX = 3, HELD = 24 };
+
+/* Where things stand between STX and ETX, counted from 0: status and weekday, the tens of each field, and what is fixed, as pairs of
+   a place and a character. NONE is a field that the layout does not carry. */
+enum { NONE = 255 };
+
+struct layout {
+    byte status, weekday, hour, minute, second, day, month, century, year;
+    byte fixed[20];
+    byte fixed_size;
+};
+
+enum { L6021, L6021T, L2000, L5500, L5500T, L5050, L5050T };
+
+static const struct layout layouts[] = {
+    [L6021] = {0, 1, 2, 4, 6, 8, 10, NONE, 12, {14, LF, 15, CR}, 4},
+    [L6021T] = {NONE, NONE, 0, 2, 4, NONE, NONE, NONE, NONE, {6, LF, 7, CR}, 4},
+    [L2000] = {0, 1, 2, 4, 6, 8, 10, 12, 14, {16, LF, 17, CR}, 4},
+    [L5500] = {0, 16, 2, 4, 6, 9, 11, NONE, 13, {1, ' ', 8, ' ', 15, ' ', 17, CR, 18, LF}, 10},
+    [L5500T] = {NONE, NONE, 0, 2, 4, NONE, NONE, NONE, NONE, {6, CR, 7, LF}, 4},
+    [L5050] = {18, 19, 0, 3, 6, 9, 12, NONE, 15,
+               {2, ' ', 5, ' ', 8, ' ', 11, ' ', 14, ' ', 17, ' ', 20, ' ', 21, CR, 22, LF}, 18},
+    [L5050T] = {NONE, NONE, 0, 3, 6, NONE, NONE, NONE, NONE, {2, ' ', 5, ' ', 8, ' ', 9, CR, 10, LF}, 10},
+};
+
+struct record {
+    int layout, status, weekday, hour, minute, second, day, month, year, century;
+};
+
+static int hex(byte c) {
+    if (c >= '0' && c <= '9')
+        return c - '0';
+    return c >= 'A' && c <= 'F' ? c - 'A' + 10 : -1;
+}
+
+static int layout_of(const byte *body, int length) {
+    switch (length) {
+    case 16: return L6021;
+    case 8: return body[6] == LF && body[7] == CR ? L6021T : L5500T;
+    case 18: return L2000;
+    case 19: return L5500;
+    case 23: return L5050;
+    case 11: return L5050T;
+    default: return -1;
+    }
+}
+
+/* Two digits, or a number above 99 where one of them is none. */
+static int two(const byte *digits) {
+    count tens = digits[0] - '0', ones = digits[1] - '0';
+    return tens > 9 || ones > 9 ? 100 : (int)(10 * tens + ones);
+}
+
+/* The places of a layout: 3, 4, 5 or 0, and the fields. */
+static int scan(const struct layout *layout, const byte *body, struct record *r) {
+    for (int at = 0; at < layout->fixed_size; at += 2)
+        if (body[layout->fixed[at]] != layout->fixed[at + 1])
+            return 3;
+    r->hour = two(body + layout->hour);
+    r->minute = two(body + layout->minute);
+    r->second = two(body + layout->second);
+    if (r->hour > 99 || r->minute > 99 || r->second > 99)
+        return 4;
+    if (layout->status == NONE)
+        return 0;
+    r->day = two(body + layout->day);
+    r->month = two(body + layout->month);
+    r->year = two(body + layout->year);
+    r->century = layout->century == NONE ? 0 : two(body + layout->century);
+    if (r->day > 99 || r->month > 99 || r->year > 99 || r->century > 99)
+        return 4;
+    r->status = hex(body[layout->status]);
+    r->weekday = hex(body[layout->weekday]);
+    return r->status < 0 || r->weekday < 0 ? 5 : 0;
+}
+
+static int days_in(int month, int year) {
+    static const byte days[] = {31, 28, 31, 30, 31, 30, 31, 31, 30, 31, 30, 31};
+    return days[month - 1] + (month == 2 && year % 4 == 0);
+}
+
+/* 1 Monday to 7 Sunday; 1980 to 2079 has a leap year every fourth. */
+static int weekday_of(int day, int month, int year) {
+    static const short before[] = {0, 31, 59, 90, 120, 151, 181, 212, 243, 273, 304, 334};
+    int years = year - 1980;
+    int number = 365 * years + (years + 3) / 4 + before[month - 1] + (month > 2 && years % 4 == 0) + day - 1;
+    return (number + 1) % 7 + 1;
+}
+
+static int judge(struct record *r) {
+    if (r->layout == L6021T || r->layout == L5500T || r->layout == L5050T)
+        return r->hour > 23 || r->minute > 59 || r->second > 59 ? 6 : 0;
+    if (r->layout == L6021 || r->layout == L2000) {
+        r->weekday &= 7;
+    } else if (r->status > 9) {
+        return 5;
+    }
+    if (r->weekday < 1 || r->weekday > 7)
+        return 5;
+    int year = r->layout == L2000 ? 100 * r->century + r->year : r->year + (r->year < 80 ? 2000 : 1900);
+    if (r->hour > 23 || r->minute > 59 || r->second > 59)
+        return 6;
+    if (r->day < 1 || r->day > 31 || r->month < 1 || r->month > 12 || year < 1980 || year > 2079)
+        return 6;
+    if (r->day > days_in(r->month, year))
+        return 7;
+    return weekday_of(r->day, r->month, year) != r->weekday ? 8 : 0;
+}
+
+/* One telegram with STX and ETX: 0, or 1 to 8. */
+static int read_telegram(const byte *bytes, int length, struct record *r) {
+    int layout = length < 2 ? -1 : layout_of(bytes + 1, length - 2);
+    if (layout < 0)
+        return 1;
+    if (bytes[0] != STX || bytes[length - 1] != ETX)
+        return 2;
+    r->layout = layout;
+    int refusal = scan(&layouts[layout], bytes + 1, r);
+    return refusal ? refusal : judge(r);
+}
+
+struct reader {
+    byte held[HELD + 1];
+    int length;
+    count fed, stray, start;
+};
+
+struct event {
+    int refusal;
+    count start, length;
+    struct record record;
+};
+
+/* One byte: whether it gave an event. */
+static int take(struct reader *reader, byte c, struct event *event) {
+    reader->fed++;
+    if (reader->length == 0) {
+        if (c == STX) {
+            reader->start = reader->fed - 1;
+            reader->held[reader->length++] = c;
+        } else {
+            reader->stray++;
+        }
+        return 0;
+    }
+    event->start = reader->start;
+    if (c == ETX) {
+        reader->held[reader->length++] = c;
+        event->length = reader->length;
+        event->refusal = read_telegram(reader->held, reader->length, &event->record);
+        reader->length = 0;
+        return 1;
+    }
+    if (c == STX) {
+        event->length = reader->length;
+        event->refusal = 9;
+        reader->start = reader->fed - 1;
+        reader->length = 1;
+        return 1;
+    }
+    if (reader->length == HELD) {
+        event->length = HELD + 1;
+        event->refusal = 10;
+        reader->length = 0;
+        return 1;
+    }
+    reader->held[reader->length++] = c;
+    return 0;
+}
+
+/* Takes bytes up to the first event, or all; how many is told in `taken`. */
+static int feed(struct reader *reader, const byte *piece, count length, count *taken, struct event *event) {
+    for (count at = 0; at < length; at++) {
+        if (take(reader, piece[at], event)) {
+            *taken = at + 1;
+            return 1;
+        }
+    }
+    *taken = length;
+    return 0;
+}
+
+/* --- the program --- */
+
+static long system_call(long number, long a, long b, long c) {
+    long result;
+    __asm__ volatile("syscall" : "=a"(result) : "a"(number), "D"(a), "S"(b), "d"(c) : "rcx", "r11", "memory");
+    return result;
+}
+
+static byte input[65536];
+
+static count read_all(void) {
+    count length = 0;
+    long got;
+    while (length < sizeof input && (got = system_call(0, 0, (long)(input + length), (long)(sizeof input - length))) > 0)
+        length += got;
+    return length;
+}
+
+static void print(count n) {
+    char text[12];
+    int at = sizeof text;
+    text[--at] = '\n';
+    do
+        text[--at] = '0' + n % 10;
+    while (n /= 10);
+    system_call(1, 1, (long)(text + at), (long)(sizeof text - at));
+}
+
+static count good_telegrams(const byte *data, count length) {
+    count good = 0;
+    struct record record;
+    for (count at = 0; at + 18 <= length; at += 18)
+        good += read_telegram(data + at, 18, &record) == 0;
+    return good;
+}
+
+static count events_of(const byte *data, count length) {
+    struct reader reader = {.length = 0};
+    struct event event;
+    count events = 0, taken;
+    for (count at = 0; at < length; at += taken)
+        events += feed(&reader, data + at, length - at, &taken, &event);
+    return events;
+}
+
+/* The stack is where the kernel left it, and not as a call would leave it. */
+__attribute__((force_align_arg_pointer)) void _start(void) {
+    count length = read_all();
+    if (length > 0)
+        print(input[0] == 'l' ? events_of(input + 1, length - 1) : good_telegrams(input + 1, length - 1));
+    system_call(60, 0, 0, 0);
+}
