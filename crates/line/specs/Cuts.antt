@@ -5,6 +5,7 @@ use Prim.Native.Nat.{ℕ, zero, suc}
 use Prim.{Unit}
 use lib.ListN.{drop}
 use Rattle.line.specs.declared.Reader.{Reader}
+use Rattle.line.specs.declared.Fed.{Fed}
 use Rattle.line.specs.declared.Heard.{Heard}
 use Rattle.line.specs.declared.Heard.the-variants.{Nothing, Event, Refused}
 use Rattle.line.specs.Line.{Line, Told, nothing, event, toldBy, step, startOf, answerFor, feedReader}
@@ -22,7 +23,8 @@ abbrev pub lineAfter : Line → List ℕ → Line
 lineAfter line [] = line
 lineAfter line (byte ∷ bytes) = lineAfter (step line byte) bytes
 
--- a caller's loop after so many calls on one piece: "the caller passes on the rest of the piece that it hasn't taken"
+-- a caller's loop after so many calls on one piece: "the caller passes on the rest of the piece that it hasn't taken". What is called
+-- is any reader, so that the demand can be held against any
 pub record Calls : Type 0 where
   pub reader : Reader
   pub rest : List ℕ
@@ -33,13 +35,13 @@ heardThen Nothing later = later
 heardThen (Event answer start size) later = Event answer start size ∷ later
 heardThen (Refused number) later = Refused number ∷ later
 
-abbrev pub calls : ℕ → Reader → List ℕ → Calls
-calls zero reader piece = record { reader = reader; rest = piece; heard = [] }
-calls (suc n) reader piece =
+abbrev pub callsOf : (Reader → List ℕ → Fed) → ℕ → Reader → List ℕ → Calls
+callsOf feed zero reader piece = record { reader = reader; rest = piece; heard = [] }
+callsOf feed (suc n) reader piece =
     record {
-      reader = calls n (feedReader reader piece .reader) (drop (feedReader reader piece .taken) piece) .reader;
-      rest = calls n (feedReader reader piece .reader) (drop (feedReader reader piece .taken) piece) .rest;
-      heard = heardThen (feedReader reader piece .heard) (calls n (feedReader reader piece .reader) (drop (feedReader reader piece .taken) piece) .heard);
+      reader = callsOf feed n (feed reader piece .reader) (drop (feed reader piece .taken) piece) .reader;
+      rest = callsOf feed n (feed reader piece .reader) (drop (feed reader piece .taken) piece) .rest;
+      heard = heardThen (feed reader piece .heard) (callsOf feed n (feed reader piece .reader) (drop (feed reader piece .taken) piece) .heard);
     }
 
 -- a line in pieces, each with the number of calls made on it
@@ -51,16 +53,30 @@ abbrev pub joined : List Served → List ℕ
 joined [] = []
 joined (served ∷ others) = served .piece ++ joined others
 
-abbrev pub heardFrom : Reader → List Served → List Heard
-heardFrom reader [] = []
-heardFrom reader (served ∷ others) =
-    calls (served .times) reader (served .piece) .heard ++ heardFrom (calls (served .times) reader (served .piece) .reader) others
+abbrev pub heardOf : (Reader → List ℕ → Fed) → Reader → List Served → List Heard
+heardOf feed reader [] = []
+heardOf feed reader (served ∷ others) =
+    callsOf feed (served .times) reader (served .piece) .heard ++ heardOf feed (callsOf feed (served .times) reader (served .piece) .reader) others
 
-abbrev pub readerAfter : Reader → List Served → Reader
-readerAfter reader [] = reader
-readerAfter reader (served ∷ others) = readerAfter (calls (served .times) reader (served .piece) .reader) others
+abbrev pub readerBehind : (Reader → List ℕ → Fed) → Reader → List Served → Reader
+readerBehind feed reader [] = reader
+readerBehind feed reader (served ∷ others) = readerBehind feed (callsOf feed (served .times) reader (served .piece) .reader) others
 
 -- each piece was fed until it was used up
+abbrev pub AllUsedUp : (Reader → List ℕ → Fed) → Reader → List Served → Type 0
+AllUsedUp feed reader [] = Unit
+AllUsedUp feed reader (served ∷ others) =
+    (callsOf feed (served .times) reader (served .piece) .rest ≡ []) × AllUsedUp feed (callsOf feed (served .times) reader (served .piece) .reader) others
+
+-- the same of the reader that `feed` promises
+abbrev pub calls : ℕ → Reader → List ℕ → Calls
+calls = callsOf feedReader
+
+abbrev pub heardFrom : Reader → List Served → List Heard
+heardFrom = heardOf feedReader
+
+abbrev pub readerAfter : Reader → List Served → Reader
+readerAfter = readerBehind feedReader
+
 abbrev pub UsedUp : Reader → List Served → Type 0
-UsedUp reader [] = Unit
-UsedUp reader (served ∷ others) = (calls (served .times) reader (served .piece) .rest ≡ []) × UsedUp (calls (served .times) reader (served .piece) .reader) others
+UsedUp = AllUsedUp feedReader
