@@ -1,0 +1,42 @@
+#!/usr/bin/env python3
+"""Prints how large each crate is: functions, lines of code, of definitions and of proofs, and must-fail edits.
+
+Blank lines and comments are not counted.
+"""
+import pathlib
+import re
+
+ROOT = pathlib.Path(__file__).resolve().parent.parent
+FUNCTION = re.compile(r"^\s*(pub )?fn ", re.M)
+COMMENTS = {".rt": "//", ".antt": "--"}
+
+
+def lines_in(folder):
+    """Lines of every source file below a folder that say something."""
+    count = 0
+    for path in folder.rglob("*"):
+        comment = COMMENTS.get(path.suffix)
+        if comment:
+            lines = (line.strip() for line in path.read_text(encoding="utf-8").split("\n"))
+            count += sum(1 for line in lines if line and not line.startswith(comment))
+    return count
+
+
+def figures_of(crate):
+    """Functions, code, definitions, proofs, edits."""
+    functions = sum(len(FUNCTION.findall(path.read_text(encoding="utf-8"))) for path in crate.glob("src/**/*.rt"))
+    edits = len(list(crate.glob("must-fail/*.edit")))
+    return [functions, lines_in(crate / "src"), lines_in(crate / "specs"), lines_in(crate / "proofs"), edits]
+
+
+def main():
+    names = [line.split(":")[0] for line in (ROOT / "crates.txt").read_text(encoding="utf-8").split("\n") if ":" in line]
+    rows = [(name, figures_of(ROOT / "crates" / name)) for name in names]
+    rows.append((f"{len(names)} crates", [sum(column) for column in zip(*(figures for _, figures in rows))]))
+    print(f"{'':12}{'functions':>10}{'code':>8}{'definitions':>13}{'proofs':>8}{'edits':>7}")
+    for name, (functions, code, definitions, proofs, edits) in rows:
+        print(f"{name:12}{functions:10}{code:8}{definitions:13}{proofs:8}{edits:7}")
+
+
+if __name__ == "__main__":
+    main()
