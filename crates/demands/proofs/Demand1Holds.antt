@@ -1,0 +1,1 @@
+-- Demand 1 holds. Assumes nothing.

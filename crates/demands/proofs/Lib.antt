@@ -1,0 +1,5 @@
+pub mod Refusing
+pub mod Demand1Holds
+pub mod Demand2Holds
+pub mod Demand3Holds
+pub mod BoundaryHolds
