@@ -1,154 +1,96 @@
 -- Demand 1 holds. Assumes nothing.
 use mathlib.Core.Path.{_≡_, refl, ap, sym, _∙_, subst⁻¹}
-use mathlib.Core.Bool.{Bool, true, false, cond, not, _&&_, _||_}
+use mathlib.Core.Bool.{Bool, true, false, not, cond, _||_}
 use mathlib.Core.List.{List, [], _∷_, _++_}
 use Prim.Native.Nat.{ℕ, zero, suc, _+_, _-_}
 use native.Mathlib.Omega.{arith}
-use lib.Dec.{leb, ltb, eqb}
+use lib.Dec.{leb, eqb}
 use lib.ListN.{length, take, drop, replicate, take-append-drop, length-append, length-replicate}
 use borrow.Author.Tests.{eqb-true, eqb-false}
 use Rattle.refusals.specs.Refusals.{_when_, _else_, Outcome, done, refused, unless, after}
-use Rattle.places.specs.Places.{fixedHolds, decimalHolds, codeHolds, every, rowFault}
-use Rattle.calendar.specs.Calendar.{dateInRange, dayExists, dateRefusal, dayOf, dayNumber, dateAt, dateOf}
-use Rattle.calendar.specs.TimeOfDay.{timeInRange, timeRefusal}
-use Rattle.record.specs.declared.DatedLayout.the-variants.{L6021, L2000, L5500, L5050}
-use Rattle.record.specs.declared.TimeLayout.the-variants.{T5050}
+use Rattle.calendar.specs.Calendar.{dateInRange, dayExists, dateRefusal, monthInRange, monthLength, dayOf, dateAt, dayAfter, isLastDay, dayNumber, dateOf, nextDay}
+use Rattle.calendar.specs.TimeOfDay.{timeInRange, timeRefusal, secondsOf, timeAfter, isLastSecond, secondOfDay, nextSecond}
+use Rattle.calendar.specs.declared.date.Date.{Date}
 use Rattle.record.specs.declared.Record.{Record}
 use Rattle.record.specs.declared.Record.the-variants.{Dated, TimeOnly}
-use Rattle.record.specs.Rule.{statusAllowed, weekdayAllowed, weekdayAgrees, datedRefusal, refusalOf}
-use Rattle.record.specs.Next.{recordAfter, isLastOfCalendar, nextSecondOf}
-use Rattle.record.specs.Utc.{localSeconds, toUtc, utcSeconds, seasonShift}
+use Rattle.record.specs.Rule.{refusalOf}
+use Rattle.record.specs.Next.{nextSecondOf}
+use Rattle.record.specs.Utc.{utcSeconds}
 use Rattle.layouts.specs.declared.Layout.{Layout}
-use Rattle.layouts.specs.declared.Layout.the-variants.{Full, Brief}
-use Rattle.layouts.specs.Layouts.{rowOf, byTrailer, layoutOf}
+use Rattle.layouts.specs.Layouts.{layoutOf}
 use Rattle.telegram.specs.declared.write.Choice.{Choice}
 use Rattle.telegram.specs.declared.write.Choice.the-variants.{Named, Unnamed}
 use Rattle.telegram.specs.declared.several.Several.{Several}
-use Rattle.telegram.specs.Reading.{bodyOf, framed, carried, bodyRefusal, readOf}
-use Rattle.telegram.specs.Writing.{telegramOf, as6021, judgedOf, recordToWrite, controlOf, laid, written, sizeOf, laidIn, oneMore, severalAfter, bufferAfter}
+use Rattle.telegram.specs.Reading.{bodyOf, carried, readOf}
+use Rattle.telegram.specs.Writing.{written, laidIn, oneMore, severalAfter, bufferAfter}
 use Rattle.telegram.proofs.SeveralLaws.{told-refused, ended-before, goes-in, goes-into}
 use Rattle.telegram.proofs.Demand.{refused-is-untouched}
 use Rattle.line.specs.declared.Reader.{Reader}
 use Rattle.line.specs.declared.Fed.{Fed}
-use Rattle.line.specs.declared.Heard.{Heard}
-use Rattle.line.specs.declared.Heard.the-variants.{Nothing, Event, Refused}
-use Rattle.line.specs.Line.{Line, Told, nothing, event, Feeding, toldBy, toldByEnd, step, startOf, stopOr, feedOf, lineOf, readerOf, answerFor, heardFor, fedFor, wellFormed, feedReader, endReader}
+use Rattle.line.specs.Line.{Line, Told, nothing, event, Feeding, toldBy, toldByEnd, step, startOf, stopOr, feedOf, lineOf, readerOf, heardFor, fedFor, wellFormed, feedReader, endReader}
 use Rattle.line.specs.Pieces.{Passing, passOn, passing}
 use Rattle.line.proofs.ReaderLaws.{feed-refused, end-refused}
 use Rattle.line.proofs.StaysGood.{Good, good-line, good-feed, reader-of-good}
 use Rattle.clock.specs.declared.Clock.{Clock}
-use Rattle.clock.specs.Stepping.{carriesDate, stepOf, clockSecond, steppedBy}
+use Rattle.clock.specs.Stepping.{stepOf, clockSecond, steppedBy}
 use Rattle.clock.specs.Answers.{stepAnswer}
-use Rattle.clock.proofs.StepLaws.{lowest-first}
-use Rattle.board.specs.Of6036.{offered, byteFor}
-use Rattle.demands.specs.Numbers.{among, _doneOr_, _noneOr_, _silentOr_, EachSilentOr}
-use Rattle.demands.specs.Demand1.{ReadingRefuses, WritingRefuses, WritingOneMoreRefuses, TheFirstRefusalEndsIt, TheRuleRefuses, TheNextSecondRefuses, UtcSecondsRefuse, TheStepRefuses, FeedingRefuses, TheEndRefuses, UsingUpRefuses, TheParameterByteRefuses, TheDayNumberRefuses, TheDateRefuses, ARefusedTelegramChangesNoByte, ARefusedOneMoreChangesNoByte, ARefusedStateComesBackUnchanged, ARefusedClockComesBackUnchanged}
-use Rattle.demands.proofs.Refusing.{number-or-none, by-rule, by-rules, unless-refused, one-after-another}
+use Rattle.board.specs.Switches.{byteOf}
+use Rattle.board.specs.Of6036.{offered, switchesFor, byteFor}
+use Rattle.demands.specs.Numbers.{Rule, _givenWhen_, lowest, _refusedBy_, among, _doneOr_, _noneOr_, _silentOr_, EachSilentOr}
+use Rattle.demands.specs.Rules.{dateRules, recordRules, rulesIn, readingRules, nextSecondRules, writingRules, utcRules, stepRules}
+use Rattle.demands.specs.Demand1.{ReadingRefuses, WritingRefuses, WritingOneMoreRefuses, TheFirstRefusalEndsIt, TheRuleRefuses, TheNextSecondRefuses, UtcSecondsRefuse, TheStepRefuses, FeedingRefuses, UsingUpRefuses, TheEndRefuses, TheParameterByteRefuses, TheCalendarRefuses, ARefusedTelegramChangesNoByte, ARefusedOneMoreChangesNoByte, ARefusedStateComesBackUnchanged, ARefusedClockComesBackUnchanged}
+use Rattle.demands.proofs.Refusing.{else-nothing, lowest-of-both, unless-refused-by, allAmong, number-or-none, lowest-among, done-or}
+use Rattle.demands.proofs.RulesHold.{record-rules, next-second-rules, reading-rules, writing-rules, utc-rules, step-rules}
 
--- The rule for a record gives 5 to 8, and so whatever stands on it gives these and its own.
-module _ (numbers : List ℕ) (five : among numbers 5 ≡ true) (six : among numbers 6 ≡ true) (seven : among numbers 7 ≡ true) (eight : among numbers 8 ≡ true) where
-  rules : (a b c d : Bool) → 5 when a else 6 when b else 7 when c else 8 when d noneOr numbers
-  rules true b c d = five
-  rules false true c d = six
-  rules false false true d = seven
-  rules false false false d = by-rule numbers 8 d eight
-
-  rule : (rec : Record) → refusalOf rec noneOr numbers
-  unfolding datedRefusal timeRefusal
-  rule (Dated layout status weekday date time) =
-      rules (not (statusAllowed layout status && weekdayAllowed weekday)) (not (timeInRange time && dateInRange date)) (not (dayExists date)) (not (weekdayAgrees weekday date))
-  rule (TimeOnly layout time) = by-rule numbers 6 (not (timeInRange time)) six
-
-  judged : (rec : Record) → judgedOf rec doneOr numbers
-  judged rec = unless-refused numbers (refusalOf rec) rec (rule rec)
-
-  next-second : among numbers 12 ≡ true → (rec : Record) → nextSecondOf rec doneOr numbers
-  unfolding nextSecondOf
-  next-second twelve rec =
-      unless-refused numbers (refusalOf rec else 12 when isLastOfCalendar rec) (recordAfter rec)
-      (by-rules numbers (refusalOf rec) (12 when isLastOfCalendar rec) (rule rec) (by-rule numbers 12 (isLastOfCalendar rec) twelve))
-
-pub demand-1-rule : TheRuleRefuses
-demand-1-rule = rule (5 ∷ 6 ∷ 7 ∷ 8 ∷ []) refl refl refl refl
-
-pub demand-1-next-second : TheNextSecondRefuses
-demand-1-next-second = next-second (5 ∷ 6 ∷ 7 ∷ 8 ∷ 12 ∷ []) refl refl refl refl refl
-
--- reading
+-- one telegram read
 abbrev toEight : List ℕ
 toEight = 1 ∷ 2 ∷ 3 ∷ 4 ∷ 5 ∷ 6 ∷ 7 ∷ 8 ∷ []
 
-found : (bytes : List ℕ) → layoutOf bytes doneOr toEight
-unfolding layoutOf
-found bytes =
-    by-length (eqb (length bytes) 16) (eqb (length bytes) 8) (eqb (length bytes) 18) (eqb (length bytes) 19) (eqb (length bytes) 23) (eqb (length bytes) 11)
+reading-among : (control : Bool) (bytes : List ℕ) → allAmong toEight (readingRules control bytes) ≡ true
+reading-among control bytes = go (layoutOf (bodyOf control bytes))
   where
-    by-length : (a b c d e f : Bool)
-        → cond a (done (Full L6021)) (cond b (done (byTrailer bytes)) (cond c (done (Full L2000)) (cond d (done (Full L5500)) (cond e (done (Full L5050)) (cond f (done (Brief T5050)) (refused 1)))))) doneOr toEight
-    by-length true b c d e f = tt
-    by-length false true c d e f = tt
-    by-length false false true d e f = tt
-    by-length false false false true e f = tt
-    by-length false false false false true f = tt
-    by-length false false false false false true = tt
-    by-length false false false false false false = refl
+    of-record : (rec : Record) → allAmong toEight (recordRules rec) ≡ true
+    of-record (Dated layout status weekday date time) = refl
+    of-record (TimeOnly layout time) = refl
 
-places : (a b c : Bool) → 3 when a else 4 when b else 5 when c noneOr toEight
-places true b c = refl
-places false true c = refl
-places false false true = refl
-places false false false = tt
-
-body : (layout : Layout) (bytes : List ℕ) → bodyRefusal layout bytes noneOr toEight
-unfolding bodyRefusal
-body layout bytes =
-    by-rules toEight (rowFault (rowOf layout) bytes) (refusalOf (carried layout bytes))
-    (places (not (every fixedHolds (rowOf layout) bytes)) (not (every decimalHolds (rowOf layout) bytes)) (not (every codeHolds (rowOf layout) bytes)))
-    (rule toEight refl refl refl refl (carried layout bytes))
+    go : (o : Outcome Layout) → allAmong toEight (rulesIn control bytes o) ≡ true
+    go (done layout) = of-record (carried layout (bodyOf control bytes))
+    go (refused n) = refl
 
 pub demand-1-reading : ReadingRefuses
-unfolding readOf
 demand-1-reading control bytes =
-    one-after-another toEight (layoutOf (bodyOf control bytes)) _ (found (bodyOf control bytes))
-    (λ layout.
-    unless-refused toEight (2 when (control && not (framed bytes)) else bodyRefusal layout (bodyOf control bytes)) (carried layout (bodyOf control bytes))
-    (by-rules toEight (2 when (control && not (framed bytes))) (bodyRefusal layout (bodyOf control bytes))
-    (by-rule toEight 2 (control && not (framed bytes)) refl)
-    (body layout (bodyOf control bytes))))
+    (reading-rules control bytes, done-or toEight (readOf control bytes) (readingRules control bytes) (reading-rules control bytes) (reading-among control bytes))
 
--- writing
-abbrev whenWritten : List ℕ
-whenWritten = 5 ∷ 6 ∷ 7 ∷ 8 ∷ 12 ∷ 13 ∷ 14 ∷ []
+-- one telegram written, and one more
+abbrev inWriting : List ℕ
+inWriting = 5 ∷ 6 ∷ 7 ∷ 8 ∷ 12 ∷ 13 ∷ 14 ∷ []
 
-dated : (rec : Record) → as6021 rec doneOr whenWritten
-dated (Dated layout status weekday date time) = tt
-dated (TimeOnly layout time) = refl
-
-asked : (choice : Choice) (rec : Record) → recordToWrite choice rec doneOr whenWritten
-asked (Named setting) rec = go (setting .advance)
-  where
-    go : (advance : Bool) → cond advance (nextSecondOf rec) (judgedOf rec) doneOr whenWritten
-    go true = next-second whenWritten refl refl refl refl refl rec
-    go false = judged whenWritten refl refl refl refl rec
-asked Unnamed rec = one-after-another whenWritten (judgedOf rec) as6021 (judged whenWritten refl refl refl refl rec) dated
+writing-among : (choice : Choice) (rec : Record) (room : ℕ) → allAmong inWriting (writingRules choice rec room) ≡ true
+writing-among (Named setting) (Dated layout status weekday date time) room = refl
+writing-among (Named setting) (TimeOnly layout time) room = refl
+writing-among Unnamed (Dated layout status weekday date time) room = refl
+writing-among Unnamed (TimeOnly layout time) room = refl
 
 pub demand-1-writing : WritingRefuses
-unfolding written laid
-demand-1-writing choice rec room =
-    one-after-another whenWritten (recordToWrite choice rec) _ (asked choice rec)
-    (λ same.
-    unless-refused whenWritten (13 when ltb room (length (telegramOf (controlOf choice) same))) (telegramOf (controlOf choice) same)
-    (by-rule whenWritten 13 (ltb room (length (telegramOf (controlOf choice) same))) refl))
+demand-1-writing choice rec room = (
+  writing-rules choice rec room,
+  done-or inWriting (written choice rec room) (writingRules choice rec room) (writing-rules choice rec room) (writing-among choice rec room),
+)
 
--- several
-one-more : (several : Several) (w : Outcome (List ℕ)) → w doneOr whenWritten → oneMore several w .refusal noneOr whenWritten
-one-more several (done bytes) e = tt
-one-more several (refused n) e = number-or-none whenWritten n e
+refusal-told : (several : Several) (w : Outcome (List ℕ)) (n : ℕ) → after w (λ v. done tt) ≡ unless {A = Unit {0}} n tt → oneMore several w .refusal ≡ n
+unfolding unless
+refusal-told several (done bytes) zero e = refl
+refusal-told several (done bytes) (suc n) e = let z : _≡_ {A = ℕ} 0 1 = cc in absurd (omega arith)
+refusal-told several (refused k) zero e = let z : _≡_ {A = ℕ} 0 1 = cc in absurd (omega arith)
+refusal-told several (refused k) (suc n) e = cc
 
 pub demand-1-one-more : WritingOneMoreRefuses
 demand-1-one-more choice several rec buffer none =
-    subst⁻¹ (λ s. s .refusal noneOr whenWritten) (goes-in choice several rec buffer none)
-    (one-more several (written choice rec (length buffer - several .used)) (demand-1-writing choice rec (length buffer - several .used)))
+    let room = length buffer - several .used in
+    let is =
+    ap (λ s. s .refusal) (goes-in choice several rec buffer none)
+    ∙ refusal-told several (written choice rec room) (lowest (writingRules choice rec room)) (writing-rules choice rec room) in
+    (is, subst⁻¹ (λ n. n noneOr inWriting) is (lowest-among inWriting (writingRules choice rec room) (writing-among choice rec room)))
 
 pub demand-1-first-refusal : TheFirstRefusalEndsIt
 demand-1-first-refusal choice several rec buffer some = sym (ended-before choice several rec buffer some .0)
@@ -173,33 +115,35 @@ demand-1-no-byte-of-several choice several rec buffer some = go (eqb (several .r
         ∙ laid-in (written choice rec room) (λ z. some (ap (λ s. s .refusal) (goes-in choice several rec buffer none) ∙ z))
     go false e = sym (ended-before choice several rec buffer (eqb-false (several .refusal) 0 e) .1)
 
--- UTC seconds and the station clock
-abbrev withDate : List ℕ
-withDate = 5 ∷ 6 ∷ 7 ∷ 8 ∷ 12 ∷ 14 ∷ []
+-- a record, its next second, its UTC seconds, and the station clock
+pub demand-1-rule : TheRuleRefuses
+demand-1-rule rec =
+    (record-rules rec, subst⁻¹ (λ n. n noneOr 5 ∷ 6 ∷ 7 ∷ 8 ∷ []) (record-rules rec) (lowest-among _ (recordRules rec) (go rec)))
+  where
+    go : (rec : Record) → allAmong (5 ∷ 6 ∷ 7 ∷ 8 ∷ []) (recordRules rec) ≡ true
+    go (Dated layout status weekday date time) = refl
+    go (TimeOnly layout time) = refl
 
-no-date : (n : ℕ) → n noneOr withDate → among withDate (n else 14) ≡ true
-no-date zero e = refl
-no-date (suc n) e = e
+pub demand-1-next-second : TheNextSecondRefuses
+demand-1-next-second rec = (next-second-rules rec, done-or _ (nextSecondOf rec) (nextSecondRules rec) (next-second-rules rec) (go rec))
+  where
+    go : (rec : Record) → allAmong (5 ∷ 6 ∷ 7 ∷ 8 ∷ 12 ∷ []) (nextSecondRules rec) ≡ true
+    go (Dated layout status weekday date time) = refl
+    go (TimeOnly layout time) = refl
 
 pub demand-1-utc : UtcSecondsRefuse
-unfolding toUtc
-demand-1-utc (Dated layout status weekday date time) =
-    one-after-another withDate (localSeconds (Dated layout status weekday date time)) _
-    (unless-refused withDate (refusalOf (Dated layout status weekday date time)) _ (rule withDate refl refl refl refl (Dated layout status weekday date time)))
-    (λ local.
-    unless-refused withDate (12 when ltb (local .0) (seasonShift status)) _
-    (by-rule withDate 12 (ltb (local .0) (seasonShift status)) refl))
-demand-1-utc (TimeOnly layout time) =
-    no-date (refusalOf (TimeOnly layout time)) (rule withDate refl refl refl refl (TimeOnly layout time))
+demand-1-utc rec = (utc-rules rec, done-or _ (utcSeconds rec) (utcRules rec) (utc-rules rec) (go rec))
+  where
+    go : (rec : Record) → allAmong (5 ∷ 6 ∷ 7 ∷ 8 ∷ 12 ∷ 14 ∷ []) (utcRules rec) ≡ true
+    go (Dated layout status weekday date time) = refl
+    go (TimeOnly layout time) = refl
 
 pub demand-1-step : TheStepRefuses
-demand-1-step clock =
-    let rec = clock .rec in
-    subst⁻¹ (λ o. o doneOr withDate) (lowest-first clock)
-    (unless-refused withDate (refusalOf rec else 12 when isLastOfCalendar rec else 14 when not (carriesDate rec)) tt
-    (by-rules withDate (refusalOf rec) (12 when isLastOfCalendar rec else 14 when not (carriesDate rec)) (rule withDate refl refl refl refl rec)
-    (by-rules withDate (12 when isLastOfCalendar rec) (14 when not (carriesDate rec)) (by-rule withDate 12 (isLastOfCalendar rec) refl)
-    (by-rule withDate 14 (not (carriesDate rec)) refl))))
+demand-1-step clock = (step-rules clock, done-or _ (stepAnswer (stepOf clock .answer)) (stepRules (clock .rec)) (step-rules clock) (go (clock .rec)))
+  where
+    go : (rec : Record) → allAmong (5 ∷ 6 ∷ 7 ∷ 8 ∷ 12 ∷ 14 ∷ []) (stepRules rec) ≡ true
+    go (Dated layout status weekday date time) = refl
+    go (TimeOnly layout time) = refl
 
 pub demand-1-clock-unchanged : ARefusedClockComesBackUnchanged
 unfolding stepOf
@@ -210,20 +154,30 @@ demand-1-clock-unchanged clock n = go (clockSecond (clock .rec))
     go (refused k) e = refl
 
 -- the parameter byte and the calendar
+one-rule : {A : Type 0} (n : ℕ) (holds : Bool) (value : A) → unless (n when holds) value refusedBy n givenWhen holds ∷ []
+one-rule n holds value = unless-refused-by (n when holds) value (n givenWhen holds ∷ []) (sym (else-nothing (n when holds)))
+
 pub demand-1-parameter : TheParameterByteRefuses
 unfolding byteFor
-demand-1-parameter setting = unless-refused (16 ∷ []) _ _ (by-rule (16 ∷ []) 16 (not (offered setting)) refl)
+demand-1-parameter setting = one-rule 16 (not (offered setting)) (byteOf (switchesFor setting))
 
-pub demand-1-day-number : TheDayNumberRefuses
-unfolding dayNumber dateRefusal
-demand-1-day-number date =
-    unless-refused (6 ∷ 7 ∷ []) (6 when not (dateInRange date) else 7 when not (dayExists date)) (dayOf date)
-    (by-rules (6 ∷ 7 ∷ []) (6 when not (dateInRange date)) (7 when not (dayExists date)) (by-rule (6 ∷ 7 ∷ []) 6 (not (dateInRange date)) refl)
-    (by-rule (6 ∷ 7 ∷ []) 7 (not (dayExists date)) refl))
+date-number : (date : Date) → dateRefusal date ≡ lowest (dateRules date)
+unfolding dateRefusal
+date-number date = ap (λ n. 6 when not (dateInRange date) else n) (sym (else-nothing (7 when not (dayExists date))))
 
-pub demand-1-date : TheDateRefuses
-unfolding dateOf
-demand-1-date day = unless-refused (12 ∷ []) (12 when leb 36525 day) (dateAt day) (by-rule (12 ∷ []) 12 (leb 36525 day) refl)
+pub demand-1-calendar : TheCalendarRefuses
+unfolding dayNumber dateOf nextDay secondOfDay nextSecond timeRefusal
+demand-1-calendar date time day year month = (
+  unless-refused-by (dateRefusal date) (dayOf date) (dateRules date) (date-number date),
+  one-rule 12 (leb 36525 day) (dateAt day),
+  unless-refused-by (dateRefusal date else 12 when isLastDay date) (dayAfter date) (dateRules date ++ 12 givenWhen isLastDay date ∷ [])
+      (ap (λ n. n else 12 when isLastDay date) (date-number date)
+      ∙ ap (λ n. lowest (dateRules date) else n) (sym (else-nothing (12 when isLastDay date)))
+      ∙ sym (lowest-of-both (dateRules date) (12 givenWhen isLastDay date ∷ []))),
+  one-rule 6 (not (monthInRange year month)) (monthLength year month),
+  one-rule 6 (not (timeInRange time)) (secondsOf time),
+  one-rule 6 (not (timeInRange time)) (timeAfter time, isLastSecond time),
+)
 
 -- the line
 abbrev onTheLine : List ℕ
@@ -260,7 +214,7 @@ byte-tells (first ∷ held) byte = go (eqb byte 3) (eqb byte 2) (leb 24 (length 
         → Tells onTheLine
         (cond etx (event (readOf true ((first ∷ held) ++ 3 ∷ [])) (length (first ∷ held) + 1))
         (cond stx (event (refused 9) (length (first ∷ held))) (cond full (event (refused 10) 25) nothing)))
-    go true stx full = judged-so (readOf true ((first ∷ held) ++ 3 ∷ [])) (demand-1-reading true ((first ∷ held) ++ 3 ∷ []))
+    go true stx full = judged-so (readOf true ((first ∷ held) ++ 3 ∷ [])) (demand-1-reading true ((first ∷ held) ++ 3 ∷ []) .1)
     go false true full = refl
     go false false true = refl
     go false false false = tt

@@ -14,36 +14,23 @@ use Rattle.record.specs.declared.Record.{Record}
 use Rattle.record.specs.Rule.{refusalOf}
 use Rattle.record.specs.Next.{nextSecondOf}
 use Rattle.record.proofs.NextLaws.{next-is-later}
-use Rattle.layouts.specs.declared.Layout.{Layout}
-use Rattle.layouts.specs.declared.Layout.the-variants.{Full, Brief}
-use Rattle.layouts.specs.Layouts.{rowOf, ownLayout}
-use Rattle.record.specs.declared.DatedLayout.the-variants.{L6021, L2000, L5500, L5050}
-use Rattle.record.specs.declared.TimeLayout.the-variants.{T6021, T5500, T5050}
+use Rattle.layouts.specs.Layouts.{ownLayout}
 use Rattle.telegram.specs.declared.write.Choice.{Choice}
 use Rattle.telegram.specs.declared.write.Choice.the-variants.{Named, Unnamed}
 use Rattle.telegram.specs.Reading.{readOf}
 use Rattle.telegram.specs.Writing.{bodyBytes, telegramOf, as6021, judgedOf, recordToWrite, controlOf, laid, written}
-use Rattle.telegram.proofs.WriteLaws.{length-body, length-framed, room}
+use Rattle.telegram.proofs.WriteLaws.{room}
 use Rattle.telegram.proofs.BackAndForth.{written-reads-back, accepted-is-written}
 use Rattle.telegram.proofs.Demand.{write-reads-back}
-use Rattle.demands.specs.Demand2.{Good, plain, advanced, lengthIn, ATelegramIsItsRow, ATelegramHasTheTablesLength, WrittenByTheTables, ReadByTheTables, Accepted, CanBeMade, TheReaderAcceptsExactlyWhatTheWriterCanMake, WhatIsWrittenReadsBack, WhatIsWrittenWithoutASettingReadsBack, WrittenWithAdvanceItReadsBackAsTheNextSecond, TheNextSecondIsOneLater, TheNextSecondOfADayIsOneLater}
+use Rattle.demands.specs.Demand2.{Good, plain, advanced, ATelegramIsItsRow, ATelegramHasTheTablesLength, WrittenByTheTables, ReadByTheTables, Accepted, CanBeMade, TheReaderAcceptsExactlyWhatTheWriterCanMake, WhatIsWrittenReadsBack, WhatIsWrittenWithoutASettingReadsBack, WrittenWithAdvanceItReadsBackAsTheNextSecond, TheNextSecondIsOneLater, TheNextSecondOfADayIsOneLater}
+use Rattle.demands.proofs.TableLengths.{telegram-length}
 
 pub demand-2-is-its-row : ATelegramIsItsRow
 unfolding bodyBytes render
 demand-2-is-its-row rec = (refl, refl)
 
-row-lengths : (layout : Layout) → length (rowOf layout) + 2 ≡ lengthIn layout
-unfolding rowOf
-row-lengths (Full L6021) = refl
-row-lengths (Full L2000) = refl
-row-lengths (Full L5500) = refl
-row-lengths (Full L5050) = refl
-row-lengths (Brief T6021) = refl
-row-lengths (Brief T5500) = refl
-row-lengths (Brief T5050) = refl
-
 pub demand-2-lengths : ATelegramHasTheTablesLength
-demand-2-lengths rec = length-framed rec ∙ ap (λ n. n + 2) (length-body rec) ∙ row-lengths (ownLayout rec)
+demand-2-lengths control rec = telegram-length control rec
 
 pub demand-2-written-by-the-tables : WrittenByTheTables
 unfolding written

@@ -1,4 +1,6 @@
+pub mod TableLengths
 pub mod Refusing
+pub mod RulesHold
 pub mod Demand1Holds
 pub mod Demand2Holds
 pub mod Demand3Holds

@@ -10,23 +10,20 @@ use Rattle.refusals.specs.Refusals.{done}
 use Rattle.places.specs.Places.{byteAt}
 use Rattle.calendar.specs.TimeOfDay.{secondsOf}
 use Rattle.calendar.specs.declared.time.Time.{Time}
-use Rattle.record.specs.declared.DatedLayout.the-variants.{L6021, L2000, L5500, L5050}
 use Rattle.record.specs.declared.TimeLayout.{TimeLayout}
-use Rattle.record.specs.declared.TimeLayout.the-variants.{T6021, T5500, T5050}
 use Rattle.record.specs.declared.Record.{Record}
 use Rattle.record.specs.declared.Record.the-variants.{TimeOnly}
 use Rattle.record.specs.declared.utc.LocalSeconds.{LocalSeconds}
 use Rattle.record.specs.Rule.{refusalOf}
 use Rattle.record.specs.Next.{nextSecondOf}
 use Rattle.record.specs.Utc.{localSeconds}
-use Rattle.layouts.specs.declared.Layout.{Layout}
-use Rattle.layouts.specs.declared.Layout.the-variants.{Full, Brief}
 use Rattle.layouts.specs.Layouts.{rowOf, ownLayout}
 use Rattle.layouts.specs.Coding.{digitsOut}
 use Rattle.telegram.specs.declared.write.Choice.{Choice}
 use Rattle.telegram.specs.declared.write.Choice.the-variants.{Named, Unnamed}
 use Rattle.telegram.specs.Reading.{readOf}
 use Rattle.telegram.specs.Writing.{telegramOf, as6021, controlOf, written}
+use Rattle.demands.specs.Lengths.{lengthOf}
 
 -- a record that no rule refuses
 abbrev pub Good : Record → Type 0
@@ -48,18 +45,8 @@ ATelegramIsItsRow =
     → (telegramOf true rec ≡ 2 ∷ map (byteAt (digitsOut rec)) (rowOf (ownLayout rec)) ++ 3 ∷ [])
     × (telegramOf false rec ≡ map (byteAt (digitsOut rec)) (rowOf (ownLayout rec)))
 
--- The table's lengths, with STX and ETX.
-abbrev pub lengthIn : Layout → ℕ
-lengthIn (Full L6021) = 18
-lengthIn (Brief T6021) = 10
-lengthIn (Full L2000) = 20
-lengthIn (Full L5500) = 21
-lengthIn (Brief T5500) = 10
-lengthIn (Full L5050) = 25
-lengthIn (Brief T5050) = 13
-
 abbrev pub ATelegramHasTheTablesLength : Type 0
-ATelegramHasTheTablesLength = (rec : Record) → length (telegramOf true rec) ≡ lengthIn (ownLayout rec)
+ATelegramHasTheTablesLength = (control : Bool) (rec : Record) → length (telegramOf control rec) ≡ lengthOf control (ownLayout rec)
 
 -- Where there is room, a good record is written so.
 abbrev pub WrittenByTheTables : Type 0

@@ -1,19 +1,34 @@
--- What an entry point may refuse with: one of some refusal numbers of document 01, and no other.
+-- What an entry point may answer: the words in which demand 1 is stated.
 use mathlib.Core.Bool.{Bool, true, false, _||_}
 use mathlib.Core.List.{List, [], _∷_}
 use mathlib.Core.Path.{_≡_}
 use Prim.Native.Nat.{ℕ, zero, suc}
 use lib.Dec.{eqb}
-use Rattle.refusals.specs.Refusals.{Outcome, done, refused}
+use Rattle.refusals.specs.Refusals.{_when_, _else_, Outcome, done, refused, unless, after}
 use Rattle.record.specs.Answers.{recordAnswer}
 use Rattle.line.specs.declared.Heard.{Heard}
 use Rattle.line.specs.declared.Heard.the-variants.{Nothing, Event, Refused}
 
+-- a row of document 01's table of refusal numbers: "no. | given exactly when"
+infix 70 _givenWhen_
+pub data Rule : Type 0 where
+  _givenWhen_ : ℕ → Bool → Rule
+
+-- "where several hold, the lowest is given": the first that holds of rules in the order of their numbers, 0 where none does
+abbrev pub lowest : List Rule → ℕ
+lowest [] = 0
+lowest (n givenWhen holds ∷ rules) = n when holds else lowest rules
+
+-- the work is done, unless one of the rules refuses it; then it is refused with the lowest number whose rule holds
+infix 10 _refusedBy_
+abbrev pub _refusedBy_ : {A : Type 0} → Outcome A → List Rule → Type 0
+_refusedBy_ outcome rules = after outcome (λ value. done tt) ≡ unless {A = Unit {0}} (lowest rules) tt
+
+-- the work is done, or refused with one of these numbers
 abbrev pub among : List ℕ → ℕ → Bool
 among [] n = false
 among (first ∷ others) n = eqb n first || among others n
 
--- the work is done, or it is refused with one of the numbers
 infix 10 _doneOr_
 abbrev pub _doneOr_ : {A : Type 0} → Outcome A → List ℕ → Type 0
 _doneOr_ (done value) numbers = Unit {0}
@@ -25,7 +40,7 @@ abbrev pub _noneOr_ : ℕ → List ℕ → Type 0
 _noneOr_ zero numbers = Unit {0}
 _noneOr_ (suc n) numbers = among numbers (suc n) ≡ true
 
--- the same of the line: no event, or an event that is a record or is refused with one of the numbers. 15 is no event
+-- the same of the line: no event, or an event that is a record or is refused with one of these numbers. 15 is no event
 infix 10 _silentOr_
 abbrev pub _silentOr_ : Heard → List ℕ → Type 0
 _silentOr_ Nothing numbers = Unit {0}
