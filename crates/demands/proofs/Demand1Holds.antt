@@ -8,6 +8,7 @@ use lib.Dec.{leb, eqb}
 use lib.ListN.{length, take, drop, replicate, take-append-drop, length-append, length-replicate}
 use borrow.Author.Tests.{eqb-true, eqb-false}
 use Rattle.refusals.specs.Refusals.{_when_, _else_, Outcome, done, refused, unless, after}
+use Rattle.refusals.proofs.Laws.{else-assoc}
 use Rattle.calendar.specs.Calendar.{dateInRange, dayExists, dateRefusal, monthInRange, monthLength, dayOf, dateAt, dayAfter, isLastDay, dayNumber, dateOf, nextDay}
 use Rattle.calendar.specs.TimeOfDay.{timeInRange, timeRefusal, secondsOf, timeAfter, isLastSecond, secondOfDay, nextSecond}
 use Rattle.calendar.specs.declared.date.Date.{Date}
@@ -39,43 +40,40 @@ use Rattle.board.specs.Of6036.{offered, switchesFor, byteFor}
 use Rattle.demands.specs.Numbers.{Rule, _givenWhen_, lowest, _refusedBy_, among, _doneOr_, _noneOr_, _silentOr_, EachSilentOr}
 use Rattle.demands.specs.Rules.{dateRules, recordRules, rulesIn, readingRules, nextSecondRules, writingRules, utcRules, stepRules}
 use Rattle.demands.specs.Demand1.{ReadingRefuses, WritingRefuses, WritingOneMoreRefuses, TheFirstRefusalEndsIt, TheRuleRefuses, TheNextSecondRefuses, UtcSecondsRefuse, TheStepRefuses, FeedingRefuses, UsingUpRefuses, TheEndRefuses, TheParameterByteRefuses, TheCalendarRefuses, ARefusedTelegramChangesNoByte, ARefusedOneMoreChangesNoByte, ARefusedStateComesBackUnchanged, ARefusedClockComesBackUnchanged}
-use Rattle.demands.proofs.Refusing.{else-nothing, lowest-of-both, unless-refused-by, allAmong, number-or-none, lowest-among, done-or}
+use Rattle.demands.proofs.Refusing.{else-nothing, inOrder, allAmong, firstOf, _byFirst_, by-lowest, unless-by, tested, refuses, gives}
 use Rattle.demands.proofs.RulesHold.{record-rules, next-second-rules, reading-rules, writing-rules, utc-rules, step-rules}
 
 -- one telegram read
 abbrev toEight : List ℕ
 toEight = 1 ∷ 2 ∷ 3 ∷ 4 ∷ 5 ∷ 6 ∷ 7 ∷ 8 ∷ []
 
-reading-among : (control : Bool) (bytes : List ℕ) → allAmong toEight (readingRules control bytes) ≡ true
-reading-among control bytes = go (layoutOf (bodyOf control bytes))
-  where
-    of-record : (rec : Record) → allAmong toEight (recordRules rec) ≡ true
-    of-record (Dated layout status weekday date time) = refl
-    of-record (TimeOnly layout time) = refl
-
-    go : (o : Outcome Layout) → allAmong toEight (rulesIn control bytes o) ≡ true
-    go (done layout) = of-record (carried layout (bodyOf control bytes))
-    go (refused n) = refl
-
 pub demand-1-reading : ReadingRefuses
 demand-1-reading control bytes =
-    (reading-rules control bytes, done-or toEight (readOf control bytes) (readingRules control bytes) (reading-rules control bytes) (reading-among control bytes))
+    refuses toEight (readOf control bytes) (readingRules control bytes) (reading-rules control bytes) (go (layoutOf (bodyOf control bytes)))
+  where
+    -- which numbers, and in which order, does not hang on what holds
+    with-record : (rec : Record)
+        → tested toEight (1 givenWhen true ∷ 2 givenWhen true ∷ 3 givenWhen true ∷ 4 givenWhen true ∷ 5 givenWhen true ∷ recordRules rec) ≡ true
+    with-record (Dated layout status weekday date time) = refl
+    with-record (TimeOnly layout time) = refl
+
+    go : (o : Outcome Layout) → tested toEight (1 givenWhen true ∷ rulesIn control bytes o) ≡ true
+    go (done layout) = with-record (carried layout (bodyOf control bytes))
+    go (refused n) = refl
 
 -- one telegram written, and one more
 abbrev inWriting : List ℕ
 inWriting = 5 ∷ 6 ∷ 7 ∷ 8 ∷ 12 ∷ 13 ∷ 14 ∷ []
 
-writing-among : (choice : Choice) (rec : Record) (room : ℕ) → allAmong inWriting (writingRules choice rec room) ≡ true
-writing-among (Named setting) (Dated layout status weekday date time) room = refl
-writing-among (Named setting) (TimeOnly layout time) room = refl
-writing-among Unnamed (Dated layout status weekday date time) room = refl
-writing-among Unnamed (TimeOnly layout time) room = refl
+writing-tested : (choice : Choice) (rec : Record) (room : ℕ) → tested inWriting (writingRules choice rec room) ≡ true
+writing-tested (Named setting) (Dated layout status weekday date time) room = refl
+writing-tested (Named setting) (TimeOnly layout time) room = refl
+writing-tested Unnamed (Dated layout status weekday date time) room = refl
+writing-tested Unnamed (TimeOnly layout time) room = refl
 
 pub demand-1-writing : WritingRefuses
-demand-1-writing choice rec room = (
-  writing-rules choice rec room,
-  done-or inWriting (written choice rec room) (writingRules choice rec room) (writing-rules choice rec room) (writing-among choice rec room),
-)
+demand-1-writing choice rec room =
+    refuses inWriting (written choice rec room) (writingRules choice rec room) (writing-rules choice rec room) (writing-tested choice rec room)
 
 refusal-told : (several : Several) (w : Outcome (List ℕ)) (n : ℕ) → after w (λ v. done tt) ≡ unless {A = Unit {0}} n tt → oneMore several w .refusal ≡ n
 unfolding unless
@@ -87,10 +85,9 @@ refusal-told several (refused k) (suc n) e = cc
 pub demand-1-one-more : WritingOneMoreRefuses
 demand-1-one-more choice several rec buffer none =
     let room = length buffer - several .used in
-    let is =
-    ap (λ s. s .refusal) (goes-in choice several rec buffer none)
-    ∙ refusal-told several (written choice rec room) (lowest (writingRules choice rec room)) (writing-rules choice rec room) in
-    (is, subst⁻¹ (λ n. n noneOr inWriting) is (lowest-among inWriting (writingRules choice rec room) (writing-among choice rec room)))
+    gives inWriting _ (writingRules choice rec room)
+    (ap (λ s. s .refusal) (goes-in choice several rec buffer none) ∙ refusal-told several (written choice rec room) _ (writing-rules choice rec room))
+    (writing-tested choice rec room)
 
 pub demand-1-first-refusal : TheFirstRefusalEndsIt
 demand-1-first-refusal choice several rec buffer some = sym (ended-before choice several rec buffer some .0)
@@ -117,33 +114,32 @@ demand-1-no-byte-of-several choice several rec buffer some = go (eqb (several .r
 
 -- a record, its next second, its UTC seconds, and the station clock
 pub demand-1-rule : TheRuleRefuses
-demand-1-rule rec =
-    (record-rules rec, subst⁻¹ (λ n. n noneOr 5 ∷ 6 ∷ 7 ∷ 8 ∷ []) (record-rules rec) (lowest-among _ (recordRules rec) (go rec)))
+demand-1-rule rec = gives (5 ∷ 6 ∷ 7 ∷ 8 ∷ []) (refusalOf rec) (recordRules rec) (record-rules rec) (go rec)
   where
-    go : (rec : Record) → allAmong (5 ∷ 6 ∷ 7 ∷ 8 ∷ []) (recordRules rec) ≡ true
+    go : (rec : Record) → tested (5 ∷ 6 ∷ 7 ∷ 8 ∷ []) (recordRules rec) ≡ true
     go (Dated layout status weekday date time) = refl
     go (TimeOnly layout time) = refl
 
 pub demand-1-next-second : TheNextSecondRefuses
-demand-1-next-second rec = (next-second-rules rec, done-or _ (nextSecondOf rec) (nextSecondRules rec) (next-second-rules rec) (go rec))
+demand-1-next-second rec = refuses (5 ∷ 6 ∷ 7 ∷ 8 ∷ 12 ∷ []) (nextSecondOf rec) (nextSecondRules rec) (next-second-rules rec) (go rec)
   where
-    go : (rec : Record) → allAmong (5 ∷ 6 ∷ 7 ∷ 8 ∷ 12 ∷ []) (nextSecondRules rec) ≡ true
+    go : (rec : Record) → tested (5 ∷ 6 ∷ 7 ∷ 8 ∷ 12 ∷ []) (nextSecondRules rec) ≡ true
     go (Dated layout status weekday date time) = refl
     go (TimeOnly layout time) = refl
+
+abbrev withDate : List ℕ
+withDate = 5 ∷ 6 ∷ 7 ∷ 8 ∷ 12 ∷ 14 ∷ []
+
+twelve-and-fourteen : (rec : Record) (a b : Bool) → tested withDate (recordRules rec ++ 12 givenWhen a ∷ 14 givenWhen b ∷ []) ≡ true
+twelve-and-fourteen (Dated layout status weekday date time) a b = refl
+twelve-and-fourteen (TimeOnly layout time) a b = refl
 
 pub demand-1-utc : UtcSecondsRefuse
-demand-1-utc rec = (utc-rules rec, done-or _ (utcSeconds rec) (utcRules rec) (utc-rules rec) (go rec))
-  where
-    go : (rec : Record) → allAmong (5 ∷ 6 ∷ 7 ∷ 8 ∷ 12 ∷ 14 ∷ []) (utcRules rec) ≡ true
-    go (Dated layout status weekday date time) = refl
-    go (TimeOnly layout time) = refl
+demand-1-utc rec = refuses withDate (utcSeconds rec) (utcRules rec) (utc-rules rec) (twelve-and-fourteen rec _ _)
 
 pub demand-1-step : TheStepRefuses
-demand-1-step clock = (step-rules clock, done-or _ (stepAnswer (stepOf clock .answer)) (stepRules (clock .rec)) (step-rules clock) (go (clock .rec)))
-  where
-    go : (rec : Record) → allAmong (5 ∷ 6 ∷ 7 ∷ 8 ∷ 12 ∷ 14 ∷ []) (stepRules rec) ≡ true
-    go (Dated layout status weekday date time) = refl
-    go (TimeOnly layout time) = refl
+demand-1-step clock =
+    refuses withDate (stepAnswer (stepOf clock .answer)) (stepRules (clock .rec)) (step-rules clock) (twelve-and-fourteen (clock .rec) _ _)
 
 pub demand-1-clock-unchanged : ARefusedClockComesBackUnchanged
 unfolding stepOf
@@ -155,29 +151,29 @@ demand-1-clock-unchanged clock n = go (clockSecond (clock .rec))
 
 -- the parameter byte and the calendar
 one-rule : {A : Type 0} (n : ℕ) (holds : Bool) (value : A) → unless (n when holds) value refusedBy n givenWhen holds ∷ []
-one-rule n holds value = unless-refused-by (n when holds) value (n givenWhen holds ∷ []) (sym (else-nothing (n when holds)))
+one-rule n holds value =
+    by-lowest (unless (n when holds) value) (n givenWhen holds ∷ []) refl (unless-by (n when holds) value (n givenWhen holds ∷ []) (sym (else-nothing (n when holds))))
 
 pub demand-1-parameter : TheParameterByteRefuses
 unfolding byteFor
 demand-1-parameter setting = one-rule 16 (not (offered setting)) (byteOf (switchesFor setting))
 
-date-number : (date : Date) → dateRefusal date ≡ lowest (dateRules date)
-unfolding dateRefusal
-date-number date = ap (λ n. 6 when not (dateInRange date) else n) (sym (else-nothing (7 when not (dayExists date))))
-
 pub demand-1-calendar : TheCalendarRefuses
-unfolding dayNumber dateOf nextDay secondOfDay nextSecond timeRefusal
-demand-1-calendar date time day year month = (
-  unless-refused-by (dateRefusal date) (dayOf date) (dateRules date) (date-number date),
-  one-rule 12 (leb 36525 day) (dateAt day),
-  unless-refused-by (dateRefusal date else 12 when isLastDay date) (dayAfter date) (dateRules date ++ 12 givenWhen isLastDay date ∷ [])
-      (ap (λ n. n else 12 when isLastDay date) (date-number date)
-      ∙ ap (λ n. lowest (dateRules date) else n) (sym (else-nothing (12 when isLastDay date)))
-      ∙ sym (lowest-of-both (dateRules date) (12 givenWhen isLastDay date ∷ []))),
-  one-rule 6 (not (monthInRange year month)) (monthLength year month),
-  one-rule 6 (not (timeInRange time)) (secondsOf time),
-  one-rule 6 (not (timeInRange time)) (timeAfter time, isLastSecond time),
-)
+unfolding dayNumber dateOf nextDay secondOfDay nextSecond timeRefusal dateRefusal
+demand-1-calendar date time day year month =
+    let range = 6 when not (dateInRange date) in
+    let exists = 7 when not (dayExists date) in
+    let last = 12 when isLastDay date in
+    let next = dateRules date ++ 12 givenWhen isLastDay date ∷ [] in (
+      by-lowest (dayNumber date) (dateRules date) refl (unless-by (range else exists) (dayOf date) (dateRules date) (ap (λ n. range else n) (sym (else-nothing exists)))),
+      one-rule 12 (leb 36525 day) (dateAt day),
+      by-lowest (nextDay date) next refl
+          (unless-by ((range else exists) else last) (dayAfter date) next
+          (sym (else-assoc range exists last) ∙ ap (λ n. range else exists else n) (sym (else-nothing last)))),
+      one-rule 6 (not (monthInRange year month)) (monthLength year month),
+      one-rule 6 (not (timeInRange time)) (secondsOf time),
+      one-rule 6 (not (timeInRange time)) (timeAfter time, isLastSecond time),
+    )
 
 -- the line
 abbrev onTheLine : List ℕ

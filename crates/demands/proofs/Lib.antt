@@ -1,5 +1,5 @@
-pub mod TableLengths
 pub mod Refusing
+pub mod TableLengths
 pub mod RulesHold
 pub mod Demand1Holds
 pub mod Demand2Holds

@@ -18,7 +18,8 @@ use Rattle.telegram.specs.Reading.{bodyOf}
 use Rattle.telegram.specs.Writing.{telegramOf}
 use Rattle.telegram.proofs.WriteLaws.{length-body, length-framed}
 use Rattle.demands.specs.Lengths.{sevenLayouts, lengthIn, lengthOf}
-use Rattle.demands.specs.Numbers.{_givenWhen_, lowest, _refusedBy_, among}
+use Rattle.demands.specs.Numbers.{_givenWhen_, among}
+use Rattle.demands.proofs.Refusing.{firstOf, _byFirst_}
 
 two-more : (layout : Layout) → length (rowOf layout) + 2 ≡ lengthIn layout
 unfolding rowOf
@@ -35,14 +36,14 @@ telegram-length true rec = length-framed rec ∙ ap (λ n. n + 2) (length-body r
 telegram-length false rec = omega (arith, length-body rec, two-more (ownLayout rec))
 
 -- a layout is found exactly for a length of the table
-pub found : (bytes : List ℕ) → layoutOf bytes refusedBy 1 givenWhen not (among (map (lengthOf false) sevenLayouts) (length bytes)) ∷ []
+pub found : (bytes : List ℕ) → layoutOf bytes byFirst 1 givenWhen not (among (map (lengthOf false) sevenLayouts) (length bytes)) ∷ []
 unfolding layoutOf unless
 found bytes =
     by-length (eqb (length bytes) 16) (eqb (length bytes) 8) (eqb (length bytes) 18) (eqb (length bytes) 19) (eqb (length bytes) 23) (eqb (length bytes) 11)
   where
     by-length : (a b c d e f : Bool)
         → cond a (done (Full L6021)) (cond b (done (byTrailer bytes)) (cond c (done (Full L2000)) (cond d (done (Full L5500)) (cond e (done (Full L5050)) (cond f (done (Brief T5050)) (refused 1))))))
-        refusedBy 1 givenWhen not (a || (b || (c || (d || (b || (e || (f || false))))))) ∷ []
+        byFirst 1 givenWhen not (a || (b || (c || (d || (b || (e || (f || false))))))) ∷ []
     by-length true b c d e f = refl
     by-length false true c d e f = refl
     by-length false false true d e f = refl

@@ -4,7 +4,8 @@ use mathlib.Core.List.{List, [], _∷_}
 use mathlib.Core.Path.{_≡_}
 use Prim.Native.Nat.{ℕ, zero, suc}
 use lib.Dec.{eqb}
-use Rattle.refusals.specs.Refusals.{_when_, _else_, Outcome, done, refused, unless, after}
+use Rattle.refusals.specs.Refusals.{_when_, Outcome, done, refused, unless, after}
+use Rattle.places.specs.Places.{lower}
 use Rattle.record.specs.Answers.{recordAnswer}
 use Rattle.line.specs.declared.Heard.{Heard}
 use Rattle.line.specs.declared.Heard.the-variants.{Nothing, Event, Refused}
@@ -14,12 +15,12 @@ infix 70 _givenWhen_
 pub data Rule : Type 0 where
   _givenWhen_ : ℕ → Bool → Rule
 
--- "where several hold, the lowest is given": the first that holds of rules in the order of their numbers, 0 where none does
+-- "where several hold, the lowest is given": the lowest number whose rule holds, 0 where none does
 abbrev pub lowest : List Rule → ℕ
 lowest [] = 0
-lowest (n givenWhen holds ∷ rules) = n when holds else lowest rules
+lowest (n givenWhen holds ∷ rules) = lower (n when holds) (lowest rules)
 
--- the work is done, unless one of the rules refuses it; then it is refused with the lowest number whose rule holds
+-- the work is done, unless one of the rules refuses it: then it is refused with the lowest number whose rule holds
 infix 10 _refusedBy_
 abbrev pub _refusedBy_ : {A : Type 0} → Outcome A → List Rule → Type 0
 _refusedBy_ outcome rules = after outcome (λ value. done tt) ≡ unless {A = Unit {0}} (lowest rules) tt
