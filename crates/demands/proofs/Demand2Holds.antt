@@ -1,8 +1,8 @@
 -- Demand 2 holds. Assumes nothing.
 use mathlib.Core.Path.{_≡_, refl, ap, sym, _∙_}
 use mathlib.Core.Bool.{Bool, true, false}
-use mathlib.Core.List.{List, [], _∷_, _++_}
-use Prim.Native.Nat.{ℕ, zero, suc, _+_, _%_}
+use mathlib.Core.List.{List}
+use Prim.Native.Nat.{ℕ, zero, suc, _+_, _%_, _≤_}
 use native.Mathlib.Omega.{arith}
 use lib.ListN.{length}
 use Rattle.refusals.specs.Refusals.{Outcome, done, refused, unless, after}
@@ -14,15 +14,14 @@ use Rattle.record.specs.declared.Record.{Record}
 use Rattle.record.specs.Rule.{refusalOf}
 use Rattle.record.specs.Next.{nextSecondOf}
 use Rattle.record.proofs.NextLaws.{next-is-later}
-use Rattle.layouts.specs.Layouts.{ownLayout}
 use Rattle.telegram.specs.declared.write.Choice.{Choice}
-use Rattle.telegram.specs.declared.write.Choice.the-variants.{Named, Unnamed}
+use Rattle.telegram.specs.declared.write.Choice.the-variants.{Unnamed}
 use Rattle.telegram.specs.Reading.{readOf}
-use Rattle.telegram.specs.Writing.{bodyBytes, telegramOf, as6021, judgedOf, recordToWrite, controlOf, laid, written}
+use Rattle.telegram.specs.Writing.{bodyBytes, telegramOf, as6021, recordToWrite, controlOf, laid, written, laidIn}
 use Rattle.telegram.proofs.WriteLaws.{room}
 use Rattle.telegram.proofs.BackAndForth.{written-reads-back, accepted-is-written}
 use Rattle.telegram.proofs.Demand.{write-reads-back}
-use Rattle.demands.specs.Demand2.{Good, plain, advanced, ATelegramIsItsRow, ATelegramHasTheTablesLength, WrittenByTheTables, ReadByTheTables, Accepted, CanBeMade, TheReaderAcceptsExactlyWhatTheWriterCanMake, WhatIsWrittenReadsBack, WhatIsWrittenWithoutASettingReadsBack, WrittenWithAdvanceItReadsBackAsTheNextSecond, TheNextSecondIsOneLater, TheNextSecondOfADayIsOneLater}
+use Rattle.demands.specs.Demand2.{Good, plain, advanced, ATelegramIsItsRow, ATelegramHasTheTablesLength, WrittenByTheTables, ReadByTheTables, TheReaderAcceptsExactlyWhatTheWriterCanMake, WhatIsWrittenReadsBack, WhatIsWrittenWithoutASettingReadsBack, WrittenWithAdvanceItReadsBackAsTheNextSecond, TheNextSecondIsOneLater, TheNextSecondOfADayIsOneLater}
 use Rattle.demands.proofs.TableLengths.{telegram-length}
 
 pub demand-2-is-its-row : ATelegramIsItsRow
@@ -32,10 +31,14 @@ demand-2-is-its-row rec = (refl, refl)
 pub demand-2-lengths : ATelegramHasTheTablesLength
 demand-2-lengths control rec = telegram-length control rec
 
-pub demand-2-written-by-the-tables : WrittenByTheTables
+written-so : (control : Bool) (rec : Record) (n : ℕ) → Good rec → length (telegramOf control rec) ≤ n
+    → written (plain control) rec n ≡ done (telegramOf control rec)
 unfolding written
-demand-2-written-by-the-tables control rec n good fits =
-    ap (λ o. after o (λ r. laid control r n)) (does rec good) ∙ room control rec n fits
+written-so control rec n good fits = ap (λ o. after o (λ r. laid control r n)) (does rec good) ∙ room control rec n fits
+
+pub demand-2-written-by-the-tables : WrittenByTheTables
+demand-2-written-by-the-tables control rec buffer good fits =
+    let so = written-so control rec (length buffer) good fits in (so, ap (λ w. laidIn w buffer) so)
 
 pub demand-2-read-by-the-tables : ReadByTheTables
 demand-2-read-by-the-tables control bytes rec = (
@@ -62,7 +65,7 @@ demand-2-accepts-exactly control bytes = (
         read .0,
         length (telegramOf control (read .0)),
         refl,
-        demand-2-written-by-the-tables control (read .0) _ (made .is-good) (omega arith) ∙ ap done (made .is-written),
+        written-so control (read .0) _ (made .is-good) (omega arith) ∙ ap done (made .is-written),
       ),
   λ made.
       let asked = was-asked (made .0) (made .1) (made .2) bytes (made .4) in

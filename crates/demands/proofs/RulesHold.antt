@@ -2,13 +2,13 @@
 use mathlib.Core.Path.{_≡_, refl, ap, sym, _∙_}
 use mathlib.Core.Bool.{Bool, true, false, cond, not, _&&_}
 use mathlib.Core.List.{List, [], _∷_, _++_, map, append-assoc}
-use Prim.Native.Nat.{ℕ, zero, suc, _+_, _-_, _*_}
+use Prim.Native.Nat.{ℕ, _+_, _-_, _*_}
 use native.Mathlib.Omega.{arith}
 use lib.Dec.{ltb}
 use lib.ListN.{length}
 use Rattle.refusals.specs.Refusals.{_when_, _else_, Outcome, done, refused, unless, after}
 use Rattle.refusals.proofs.Laws.{else-assoc}
-use Rattle.places.specs.Places.{fixedHolds, decimalHolds, codeHolds, every, rowFault}
+use Rattle.places.specs.Places.{fixedHolds, decimalHolds, codeHolds, every}
 use Rattle.calendar.specs.Calendar.{dateInRange, dayExists, dayOf, dayAfter}
 use Rattle.calendar.specs.TimeOfDay.{timeInRange, timeRefusal, secondsOf, isLastSecond, timeAfter}
 use Rattle.record.specs.declared.DatedLayout.the-variants.{L6021}
@@ -16,13 +16,13 @@ use Rattle.record.specs.declared.Record.{Record}
 use Rattle.record.specs.declared.Record.the-variants.{Dated, TimeOnly}
 use Rattle.record.specs.Rule.{statusAllowed, weekdayAllowed, weekdayAgrees, datedRefusal, refusalOf}
 use Rattle.record.specs.Next.{weekdayAfter, recordAfter, isLastOfCalendar, nextSecondOf}
-use Rattle.record.specs.Utc.{seasonShift, localSeconds, toUtc, utcSeconds}
+use Rattle.record.specs.Utc.{seasonShift, toUtc, utcSeconds}
 use Rattle.layouts.specs.declared.Layout.{Layout}
 use Rattle.layouts.specs.Layouts.{rowOf, ownLayout, layoutOf}
 use Rattle.telegram.specs.declared.write.Choice.{Choice}
 use Rattle.telegram.specs.declared.write.Choice.the-variants.{Named, Unnamed}
 use Rattle.telegram.specs.Reading.{bodyOf, framed, carried, bodyRefusal, readOf}
-use Rattle.telegram.specs.Writing.{telegramOf, as6021, judgedOf, recordToWrite, laid, written}
+use Rattle.telegram.specs.Writing.{telegramOf, as6021, judgedOf, laid, written}
 use Rattle.clock.specs.declared.Clock.{Clock}
 use Rattle.clock.specs.Stepping.{carriesDate, stepOf}
 use Rattle.clock.specs.Answers.{stepAnswer}

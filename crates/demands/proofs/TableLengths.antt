@@ -1,5 +1,5 @@
 -- The table's lengths are those of the rows, of the telegrams, and of the bytes that a layout is found for. Assumes nothing.
-use mathlib.Core.Path.{_≡_, refl, ap, sym, _∙_}
+use mathlib.Core.Path.{_≡_, refl, ap, _∙_}
 use mathlib.Core.Bool.{Bool, true, false, cond, not, _||_}
 use mathlib.Core.List.{List, [], _∷_, map}
 use Prim.Native.Nat.{ℕ, suc, _+_, _-_}
@@ -7,7 +7,7 @@ use native.Mathlib.Omega.{arith}
 use lib.Dec.{eqb}
 use lib.ListN.{length, take, drop, length-take, length-drop}
 use borrow.Author.Tests.{eqb-true, eqb-false, eq-eqb, ne-eqb}
-use Rattle.refusals.specs.Refusals.{done, refused, unless, after}
+use Rattle.refusals.specs.Refusals.{done, refused, unless}
 use Rattle.record.specs.declared.DatedLayout.the-variants.{L6021, L2000, L5500, L5050}
 use Rattle.record.specs.declared.TimeLayout.the-variants.{T6021, T5500, T5050}
 use Rattle.record.specs.declared.Record.{Record}
@@ -19,7 +19,7 @@ use Rattle.telegram.specs.Writing.{telegramOf}
 use Rattle.telegram.proofs.WriteLaws.{length-body, length-framed}
 use Rattle.demands.specs.Lengths.{sevenLayouts, lengthIn, lengthOf}
 use Rattle.demands.specs.Numbers.{_givenWhen_, among}
-use Rattle.demands.proofs.Refusing.{firstOf, _byFirst_}
+use Rattle.demands.proofs.Refusing.{_byFirst_}
 
 two-more : (layout : Layout) → length (rowOf layout) + 2 ≡ lengthIn layout
 unfolding rowOf

@@ -67,21 +67,34 @@ crystalStandardAnnounced = record { reception = Crystal; daylight = false; utc =
 abbrev pub radioStandard : Status
 radioStandard = record { reception = Radio; daylight = false; utc = false; announced = false }
 
--- P1 to P13, in their order. A record: layout, status, weekday, date, time
+-- in the table's order. A record: layout, status, weekday, date, time
 abbrev pub boundaryTable : List Row
 boundaryTable =
+    -- P1
     telegram (ascii "E3123456170496" ++ lfCr) (done (Dated L6021 highDaylight 3 (date 1996 4 17) (time 12 34 56)))
+    -- P2: weekday 4
     ∷ telegram (ascii "E4123456170496" ++ lfCr) (refused 8)
+    -- P3
     ∷ telegram (ascii "1 123456 030196 3" ++ crLf) (done (Dated L5500 crystalStandard 3 (date 1996 1 3) (time 12 34 56)))
+    -- P4: status 3
     ∷ telegram (ascii "3 123456 030196 3" ++ crLf) (done (Dated L5500 crystalStandardAnnounced 3 (date 1996 1 3) (time 12 34 56)))
+    -- P5: status A
     ∷ telegram (ascii "A 123456 030196 3" ++ crLf) (refused 5)
+    -- P6
     ∷ telegram (ascii "C6120000290297" ++ lfCr) (refused 7)
+    -- P7
     ∷ telegram (ascii "C2120000290200" ++ lfCr) (done (Dated L6021 highStandard 2 (date 2000 2 29) (time 12 0 0)))
+    -- P8
     ∷ telegram (ascii "235959" ++ lfCr) (done (TimeOnly T6021 (time 23 59 59)))
+    -- P9
     ∷ telegram (ascii "235959" ++ crLf) (done (TimeOnly T5500 (time 23 59 59)))
+    -- P10
     ∷ telegram (ascii "240000" ++ lfCr) (refused 6)
+    -- P11
     ∷ telegram (ascii "CB123456030196" ++ lfCr) (done (Dated L6021 highUtc 3 (date 1996 1 3) (time 12 34 56)))
+    -- P12: CET, 8 bits, no parity, 2 stop, 600
     ∷ parameter 0xA6 (record { utc = false; «data_bits» = 8; parity = None; «stop_bits» = 2; baud = 600 })
+    -- P13
     ∷ toUtc (Dated L6021 radioStandard 2 (date 1980 1 1) (time 0 30 0)) (refused 12)
     ∷ []
 

@@ -5,7 +5,7 @@
 use mathlib.Core.Bool.{Bool, true, false, not}
 use mathlib.Core.List.{List, [], _∷_, _++_}
 use mathlib.Core.Path.{_≡_}
-use Prim.Native.Nat.{ℕ, _-_}
+use Prim.Native.Nat.{ℕ, _-_, _<_}
 use lib.Dec.{leb}
 use lib.ListN.{length}
 use Rattle.refusals.specs.Refusals.{refused}
@@ -77,16 +77,20 @@ TheStepRefuses =
     → (stepAnswer (stepOf clock .answer) refusedBy stepRules (clock .rec))
     × (stepAnswer (stepOf clock .answer) doneOr 5 ∷ 6 ∷ 7 ∷ 8 ∷ 12 ∷ 14 ∷ [])
 
+-- what a reader's declaration says already: an array of 24 places, and counts of 32 bits
+abbrev pub AsDeclared : Reader → Type 0
+AsDeclared reader = (length (reader .held) ≡ 24) × (reader .fed < 4294967296) × (reader .stray < 4294967296)
+
 -- a piece fed to the line, in a well-formed state: nothing, a record, or one of 1 to 10
 abbrev pub FeedingRefuses : Type 0
 FeedingRefuses =
     (reader : Reader) (piece : List ℕ) → wellFormed reader ≡ true
     → feedReader reader piece .heard silentOr 1 ∷ 2 ∷ 3 ∷ 4 ∷ 5 ∷ 6 ∷ 7 ∷ 8 ∷ 9 ∷ 10 ∷ []
 
--- a piece used up, with room for any number of events: the same for each event (the array of a reader has 24 places)
+-- a piece used up, with room for any number of events: the same for each event, and no call is refused
 abbrev pub UsingUpRefuses : Type 0
 UsingUpRefuses =
-    (reader : Reader) (piece : List ℕ) (room : ℕ) → wellFormed reader ≡ true → length (reader .held) ≡ 24
+    (reader : Reader) (piece : List ℕ) (room : ℕ) → AsDeclared reader → wellFormed reader ≡ true
     → (passing room reader piece .refusal ≡ 0)
     × EachSilentOr (passing room reader piece .events) (1 ∷ 2 ∷ 3 ∷ 4 ∷ 5 ∷ 6 ∷ 7 ∷ 8 ∷ 9 ∷ 10 ∷ [])
 

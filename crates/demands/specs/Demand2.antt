@@ -4,8 +4,8 @@ use mathlib.Core.Bool.{Bool, true, false}
 use mathlib.Core.List.{List, [], _∷_, _++_, map}
 use mathlib.Core.Logic.{_↔_}
 use mathlib.Core.Path.{_≡_}
-use Prim.Native.Nat.{ℕ, _+_, _*_, _%_, _≤_}
-use lib.ListN.{length}
+use Prim.Native.Nat.{ℕ, _+_, _%_, _≤_}
+use lib.ListN.{length, drop}
 use Rattle.refusals.specs.Refusals.{done}
 use Rattle.places.specs.Places.{byteAt}
 use Rattle.calendar.specs.TimeOfDay.{secondsOf}
@@ -22,7 +22,7 @@ use Rattle.layouts.specs.Coding.{digitsOut}
 use Rattle.telegram.specs.declared.write.Choice.{Choice}
 use Rattle.telegram.specs.declared.write.Choice.the-variants.{Named, Unnamed}
 use Rattle.telegram.specs.Reading.{readOf}
-use Rattle.telegram.specs.Writing.{telegramOf, as6021, controlOf, written}
+use Rattle.telegram.specs.Writing.{telegramOf, as6021, controlOf, written, laidIn}
 use Rattle.demands.specs.Lengths.{lengthOf}
 
 -- a record that no rule refuses
@@ -45,14 +45,16 @@ ATelegramIsItsRow =
     → (telegramOf true rec ≡ 2 ∷ map (byteAt (digitsOut rec)) (rowOf (ownLayout rec)) ++ 3 ∷ [])
     × (telegramOf false rec ≡ map (byteAt (digitsOut rec)) (rowOf (ownLayout rec)))
 
+-- It has the table's length.
 abbrev pub ATelegramHasTheTablesLength : Type 0
 ATelegramHasTheTablesLength = (control : Bool) (rec : Record) → length (telegramOf control rec) ≡ lengthOf control (ownLayout rec)
 
--- Where there is room, a good record is written so.
+-- Where there is room, a good record is written so: its telegram, and behind it the buffer as it was.
 abbrev pub WrittenByTheTables : Type 0
 WrittenByTheTables =
-    (control : Bool) (rec : Record) (room : ℕ) → Good rec → length (telegramOf control rec) ≤ room
-    → written (plain control) rec room ≡ done (telegramOf control rec)
+    (control : Bool) (rec : Record) (buffer : List ℕ) → Good rec → length (telegramOf control rec) ≤ length buffer
+    → (written (plain control) rec (length buffer) ≡ done (telegramOf control rec))
+    × (laidIn (written (plain control) rec (length buffer)) buffer ≡ telegramOf control rec ++ drop (length (telegramOf control rec)) buffer)
 
 -- Bytes are read as a record exactly where that record is good and its telegram is those bytes.
 abbrev pub ReadByTheTables : Type 0

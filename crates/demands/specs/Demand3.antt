@@ -2,14 +2,17 @@
 use mathlib.Core.Bool.{true}
 use mathlib.Core.List.{List, [], _∷_, map}
 use mathlib.Core.Path.{_≡_}
-use Prim.Native.Nat.{ℕ, _%_}
+use Prim.Native.Nat.{ℕ, _%_, _≤_}
 use lib.ListN.{length}
 use Rattle.record.specs.declared.Record.{Record}
 use Rattle.record.specs.Rule.{refusalOf}
+use Rattle.line.specs.declared.Reader.{Reader}
 use Rattle.line.specs.declared.Heard.the-variants.{Nothing}
-use Rattle.line.specs.Line.{freshReader, endReader}
-use Rattle.line.specs.Cuts.{Served, joined, heardFrom, readerAfter, UsedUp}
+use Rattle.line.specs.Line.{freshReader, wellFormed, endReader}
+use Rattle.line.specs.Cuts.{calls, Served, joined, heardFrom, readerAfter, UsedUp}
+use Rattle.line.specs.Pieces.{passing}
 use Rattle.line.specs.Demand.{Sent, bytesSent, noStx, eventsSent, straySent}
+use Rattle.demands.specs.Demand1.{AsDeclared}
 
 -- "Take any list of good telegrams, layouts mixed at will, each written with control characters and without second advance,"
 -- (a `Sent` is a record with the bytes before its telegram; `bytesSent` writes each so, as `WrittenByTheTables` of demand 2 says)
@@ -40,6 +43,14 @@ serve piece = record { piece = piece; times = length piece }
 
 abbrev pub EveryCutCanBeUsedUp : Type 0
 EveryCutCanBeUsedUp = (pieces : List (List ℕ)) → UsedUp freshReader (map serve pieces)
+
+-- The public function that uses a piece up is such a feeding, for pieces of at most 32 bytes.
+abbrev pub UsingUpIsSuchAFeeding : Type 0
+UsingUpIsSuchAFeeding =
+    (reader : Reader) (piece : List ℕ) → AsDeclared reader → wellFormed reader ≡ true → length piece ≤ 32
+    → (passing 32 reader piece .events ≡ calls (length piece) reader piece .heard)
+    × (passing 32 reader piece .reader ≡ calls (length piece) reader piece .reader)
+    × (calls (length piece) reader piece .rest ≡ [])
 
 -- "So two lists that differ in one layout or one carried field never make the same line."
 abbrev pub recordsOf : List Sent → List Record
