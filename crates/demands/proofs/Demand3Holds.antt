@@ -17,19 +17,13 @@ use Rattle.line.proofs.UsesUp.{uses-up}
 use Rattle.line.specs.Demand.{Sent, allGood}
 use Rattle.line.proofs.CutLaws.{a-feeding-is, good-fresh, calls-tell, enough-calls}
 use Rattle.line.proofs.DemandLaws.{exactly-those, true-stray, end-then, same-line-same-records}
-use Rattle.demands.specs.Demand3.{GoodTelegrams, NoStxAround, TheReaderHandsBackThatList, EveryCutCanBeUsedUp, UsingUpIsSuchAFeeding, TwoListsThatDifferNeverMakeTheSameLine}
+use Rattle.demands.specs.Demand3.{GoodTelegrams, NoStxAround, TheReaderHandsBackThatList, EveryCutCanBeUsedUp, AsByCalls, UsingUpIsSuchAFeeding, TwoListsThatDifferNeverMakeTheSameLine}
 
 -- the two conditions, as the one test of the line's laws
 all-good : (sents : List Sent) (behind : List ℕ) → GoodTelegrams sents → NoStxAround sents behind → allGood sents behind ≡ true
 all-good [] behind good clear = clear
 all-good (sent ∷ others) behind good clear =
     rw (clear .0, eq-eqb (refusalOf (sent .rec)) 0 (good .0)) (all-good others behind (good .1) (clear .1))
-
-abbrev UsesUpAsCalled : List ℕ → Reader → Type 0
-UsesUpAsCalled piece reader =
-    (passing 32 reader piece .events ≡ calls (length piece) reader piece .heard)
-    × (passing 32 reader piece .reader ≡ calls (length piece) reader piece .reader)
-    × (calls (length piece) reader piece .rest ≡ [])
 
 pub demand-3-hands-back-that-list : TheReaderHandsBackThatList
 demand-3-hands-back-that-list sents behind good clear served cut used =
@@ -47,8 +41,8 @@ demand-3-using-up reader piece declared well fits =
     let over = enough-calls (length piece) line good piece (omega arith) in
     let told = calls-tell (length piece) line good piece over in
     let used = uses-up 32 line good piece fits in
-    let both : UsesUpAsCalled piece (readerOf line) = (used .0 ∙ sym (told .0), used .1 ∙ sym (told .1), over) in
-    subst (UsesUpAsCalled piece) is both
+    let so : AsByCalls piece (readerOf line) = (used .0 ∙ sym (told .0), used .1 ∙ sym (told .1), over) in
+    subst (AsByCalls piece) is so
 
 pub demand-3-never-the-same-line : TwoListsThatDifferNeverMakeTheSameLine
 demand-3-never-the-same-line a b behind-a behind-b good-a clear-a good-b clear-b differ same =

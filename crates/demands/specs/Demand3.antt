@@ -44,13 +44,16 @@ serve piece = record { piece = piece; times = length piece }
 abbrev pub EveryCutCanBeUsedUp : Type 0
 EveryCutCanBeUsedUp = (pieces : List (List ℕ)) → UsedUp freshReader (map serve pieces)
 
--- The public function that uses a piece up is such a feeding, for pieces of at most 32 bytes.
-abbrev pub UsingUpIsSuchAFeeding : Type 0
-UsingUpIsSuchAFeeding =
-    (reader : Reader) (piece : List ℕ) → AsDeclared reader → wellFormed reader ≡ true → length piece ≤ 32
-    → (passing 32 reader piece .events ≡ calls (length piece) reader piece .heard)
+-- The public function that uses a piece up is such a feeding, for pieces of at most 32 bytes: it hears and leaves what those calls do.
+abbrev pub AsByCalls : List ℕ → Reader → Type 0
+AsByCalls piece reader =
+    (passing 32 reader piece .events ≡ calls (length piece) reader piece .heard)
     × (passing 32 reader piece .reader ≡ calls (length piece) reader piece .reader)
     × (calls (length piece) reader piece .rest ≡ [])
+
+abbrev pub UsingUpIsSuchAFeeding : Type 0
+UsingUpIsSuchAFeeding =
+    (reader : Reader) (piece : List ℕ) → AsDeclared reader → wellFormed reader ≡ true → length piece ≤ 32 → AsByCalls piece reader
 
 -- "So two lists that differ in one layout or one carried field never make the same line."
 abbrev pub recordsOf : List Sent → List Record
