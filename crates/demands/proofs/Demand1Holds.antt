@@ -1,0 +1,168 @@
+-- Demand 1 holds. Assumes nothing.
+use mathlib.Core.Path.{_≡_, refl, ap, sym, _∙_}
+use mathlib.Core.Bool.{Bool, true, false, not}
+use mathlib.Core.List.{List, [], _∷_, _++_}
+use Prim.Native.Nat.{ℕ, zero, suc, _+_, _-_}
+use native.Mathlib.Omega.{arith}
+use lib.Dec.{leb, eqb}
+use lib.ListN.{length, take, drop, take-append-drop}
+use borrow.Author.Tests.{eqb-true, eqb-false}
+use Rattle.refusals.specs.Refusals.{_when_, _else_, Outcome, done, refused, unless, after}
+use Rattle.refusals.proofs.Laws.{else-assoc}
+use Rattle.calendar.specs.Calendar.{dateInRange, dayExists, dateRefusal, monthInRange, monthLength, dayOf, dateAt, dayAfter, isLastDay, dayNumber, dateOf, nextDay}
+use Rattle.calendar.specs.TimeOfDay.{timeInRange, timeRefusal, secondsOf, timeAfter, isLastSecond, secondOfDay, nextSecond}
+use Rattle.record.specs.declared.Record.{Record}
+use Rattle.record.specs.declared.Record.the-variants.{Dated, TimeOnly}
+use Rattle.record.specs.Rule.{refusalOf}
+use Rattle.record.specs.Next.{nextSecondOf}
+use Rattle.record.specs.Utc.{utcSeconds}
+use Rattle.layouts.specs.declared.Layout.{Layout}
+use Rattle.layouts.specs.Layouts.{layoutOf}
+use Rattle.telegram.specs.declared.write.Choice.{Choice}
+use Rattle.telegram.specs.declared.write.Choice.the-variants.{Named, Unnamed}
+use Rattle.telegram.specs.declared.several.Several.{Several}
+use Rattle.telegram.specs.Reading.{bodyOf, carried, readOf}
+use Rattle.telegram.specs.Writing.{written, laidIn, oneMore, bufferAfter}
+use Rattle.telegram.proofs.SeveralLaws.{told-refused, ended-before, goes-in, goes-into}
+use Rattle.telegram.proofs.Demand.{refused-is-untouched}
+use Rattle.clock.specs.Stepping.{stepOf, clockSecond, steppedBy}
+use Rattle.clock.specs.Answers.{stepAnswer}
+use Rattle.board.specs.Switches.{byteOf}
+use Rattle.board.specs.Of6036.{offered, switchesFor, byteFor}
+use Rattle.demands.specs.Numbers.{_givenWhen_, _refusedBy_}
+use Rattle.demands.specs.Rules.{dateRules, recordRules, rulesIn, readingRules, nextSecondRules, writingRules, utcRules, stepRules}
+use Rattle.demands.specs.Demand1.{ReadingRefuses, WritingRefuses, WritingOneMoreRefuses, TheFirstRefusalEndsIt, TheRuleRefuses, TheNextSecondRefuses, UtcSecondsRefuse, TheStepRefuses, TheParameterByteRefuses, TheCalendarRefuses, ARefusedTelegramChangesNoByte, ARefusedOneMoreChangesNoByte, ARefusedClockComesBackUnchanged}
+use Rattle.demands.proofs.Refusing.{else-nothing, by-lowest, unless-by, tested, refuses, gives}
+use Rattle.demands.proofs.RulesHold.{record-rules, next-second-rules, reading-rules, writing-rules, utc-rules, step-rules}
+
+-- one telegram read
+abbrev pub toEight : List ℕ
+toEight = 1 ∷ 2 ∷ 3 ∷ 4 ∷ 5 ∷ 6 ∷ 7 ∷ 8 ∷ []
+
+pub demand-1-reading : ReadingRefuses
+demand-1-reading control bytes =
+    refuses toEight (readOf control bytes) (readingRules control bytes) (reading-rules control bytes) (go (layoutOf (bodyOf control bytes)))
+  where
+    -- which numbers, and in which order, does not hang on what holds
+    with-record : (rec : Record)
+        → tested toEight (1 givenWhen true ∷ 2 givenWhen true ∷ 3 givenWhen true ∷ 4 givenWhen true ∷ 5 givenWhen true ∷ recordRules rec) ≡ true
+    with-record (Dated layout status weekday date time) = refl
+    with-record (TimeOnly layout time) = refl
+
+    go : (o : Outcome Layout) → tested toEight (1 givenWhen true ∷ rulesIn control bytes o) ≡ true
+    go (done layout) = with-record (carried layout (bodyOf control bytes))
+    go (refused n) = refl
+
+-- one telegram written, and one more
+abbrev inWriting : List ℕ
+inWriting = 5 ∷ 6 ∷ 7 ∷ 8 ∷ 12 ∷ 13 ∷ 14 ∷ []
+
+writing-tested : (choice : Choice) (rec : Record) (room : ℕ) → tested inWriting (writingRules choice rec room) ≡ true
+writing-tested (Named setting) (Dated layout status weekday date time) room = refl
+writing-tested (Named setting) (TimeOnly layout time) room = refl
+writing-tested Unnamed (Dated layout status weekday date time) room = refl
+writing-tested Unnamed (TimeOnly layout time) room = refl
+
+pub demand-1-writing : WritingRefuses
+demand-1-writing choice rec room =
+    refuses inWriting (written choice rec room) (writingRules choice rec room) (writing-rules choice rec room) (writing-tested choice rec room)
+
+refusal-told : (several : Several) (w : Outcome (List ℕ)) (n : ℕ) → after w (λ v. done tt) ≡ unless {A = Unit {0}} n tt → oneMore several w .refusal ≡ n
+unfolding unless
+refusal-told several (done bytes) zero e = refl
+refusal-told several (done bytes) (suc n) e = let z : _≡_ {A = ℕ} 0 1 = cc in absurd (omega arith)
+refusal-told several (refused k) zero e = let z : _≡_ {A = ℕ} 0 1 = cc in absurd (omega arith)
+refusal-told several (refused k) (suc n) e = cc
+
+pub demand-1-one-more : WritingOneMoreRefuses
+demand-1-one-more choice several rec buffer none =
+    let room = length buffer - several .used in
+    gives inWriting _ (writingRules choice rec room)
+    (ap (λ s. s .refusal) (goes-in choice several rec buffer none) ∙ refusal-told several (written choice rec room) _ (writing-rules choice rec room))
+    (writing-tested choice rec room)
+
+pub demand-1-first-refusal : TheFirstRefusalEndsIt
+demand-1-first-refusal choice several rec buffer some = sym (ended-before choice several rec buffer some .0)
+
+pub demand-1-no-byte : ARefusedTelegramChangesNoByte
+demand-1-no-byte choice rec buffer n e = refused-is-untouched choice rec buffer n (told-refused (written choice rec (length buffer)) n e)
+
+pub demand-1-no-byte-of-several : ARefusedOneMoreChangesNoByte
+demand-1-no-byte-of-several choice several rec buffer some = go (eqb (several .refusal) 0) refl
+  where
+    room : ℕ
+    room = length buffer - several .used
+
+    laid-in : (w : Outcome (List ℕ)) → (oneMore several w .refusal ≡ 0 → ⊥) → take (several .used) buffer ++ laidIn w (drop (several .used) buffer) ≡ buffer
+    laid-in (done bytes) h = absurd (h refl)
+    laid-in (refused n) h = take-append-drop (several .used) buffer
+
+    go : (t : Bool) → eqb (several .refusal) 0 ≡ t → bufferAfter choice several rec buffer ≡ buffer
+    go true e =
+        let none = eqb-true (several .refusal) 0 e in
+        goes-into choice several rec buffer none
+        ∙ laid-in (written choice rec room) (λ z. some (ap (λ s. s .refusal) (goes-in choice several rec buffer none) ∙ z))
+    go false e = sym (ended-before choice several rec buffer (eqb-false (several .refusal) 0 e) .1)
+
+-- a record, its next second, its UTC seconds, and the station clock
+pub demand-1-rule : TheRuleRefuses
+demand-1-rule rec = gives (5 ∷ 6 ∷ 7 ∷ 8 ∷ []) (refusalOf rec) (recordRules rec) (record-rules rec) (go rec)
+  where
+    go : (rec : Record) → tested (5 ∷ 6 ∷ 7 ∷ 8 ∷ []) (recordRules rec) ≡ true
+    go (Dated layout status weekday date time) = refl
+    go (TimeOnly layout time) = refl
+
+pub demand-1-next-second : TheNextSecondRefuses
+demand-1-next-second rec = refuses (5 ∷ 6 ∷ 7 ∷ 8 ∷ 12 ∷ []) (nextSecondOf rec) (nextSecondRules rec) (next-second-rules rec) (go rec)
+  where
+    go : (rec : Record) → tested (5 ∷ 6 ∷ 7 ∷ 8 ∷ 12 ∷ []) (nextSecondRules rec) ≡ true
+    go (Dated layout status weekday date time) = refl
+    go (TimeOnly layout time) = refl
+
+abbrev withDate : List ℕ
+withDate = 5 ∷ 6 ∷ 7 ∷ 8 ∷ 12 ∷ 14 ∷ []
+
+twelve-and-fourteen : (rec : Record) (a b : Bool) → tested withDate (recordRules rec ++ 12 givenWhen a ∷ 14 givenWhen b ∷ []) ≡ true
+twelve-and-fourteen (Dated layout status weekday date time) a b = refl
+twelve-and-fourteen (TimeOnly layout time) a b = refl
+
+pub demand-1-utc : UtcSecondsRefuse
+demand-1-utc rec = refuses withDate (utcSeconds rec) (utcRules rec) (utc-rules rec) (twelve-and-fourteen rec _ _)
+
+pub demand-1-step : TheStepRefuses
+demand-1-step clock =
+    refuses withDate (stepAnswer (stepOf clock .answer)) (stepRules (clock .rec)) (step-rules clock) (twelve-and-fourteen (clock .rec) _ _)
+
+pub demand-1-clock-unchanged : ARefusedClockComesBackUnchanged
+unfolding stepOf
+demand-1-clock-unchanged clock n = go (clockSecond (clock .rec))
+  where
+    go : (o : Outcome Record) → stepAnswer (steppedBy clock o .answer) ≡ refused n → steppedBy clock o .clock ≡ clock
+    go (done next) e = let z : _≡_ {A = ℕ} 0 1 = cc in absurd (omega arith)
+    go (refused k) e = refl
+
+-- the parameter byte and the calendar
+one-rule : {A : Type 0} (n : ℕ) (holds : Bool) (value : A) → unless (n when holds) value refusedBy n givenWhen holds ∷ []
+one-rule n holds value =
+    by-lowest (unless (n when holds) value) (n givenWhen holds ∷ []) refl (unless-by (n when holds) value (n givenWhen holds ∷ []) (sym (else-nothing (n when holds))))
+
+pub demand-1-parameter : TheParameterByteRefuses
+unfolding byteFor
+demand-1-parameter setting = one-rule 16 (not (offered setting)) (byteOf (switchesFor setting))
+
+pub demand-1-calendar : TheCalendarRefuses
+unfolding dayNumber dateOf nextDay secondOfDay nextSecond timeRefusal dateRefusal
+demand-1-calendar date time day year month =
+    let range = 6 when not (dateInRange date) in
+    let exists = 7 when not (dayExists date) in
+    let last = 12 when isLastDay date in
+    let next = dateRules date ++ 12 givenWhen isLastDay date ∷ [] in (
+      by-lowest (dayNumber date) (dateRules date) refl (unless-by (range else exists) (dayOf date) (dateRules date) (ap (λ n. range else n) (sym (else-nothing exists)))),
+      one-rule 12 (leb 36525 day) (dateAt day),
+      by-lowest (nextDay date) next refl
+          (unless-by ((range else exists) else last) (dayAfter date) next
+          (sym (else-assoc range exists last) ∙ ap (λ n. range else exists else n) (sym (else-nothing last)))),
+      one-rule 6 (not (monthInRange year month)) (monthLength year month),
+      one-rule 6 (not (timeInRange time)) (secondsOf time),
+      one-rule 6 (not (timeInRange time)) (timeAfter time, isLastSecond time),
+    )

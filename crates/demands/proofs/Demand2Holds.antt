@@ -1,0 +1,111 @@
+-- Demand 2 holds. Assumes nothing.
+use mathlib.Core.Path.{_≡_, refl, ap, sym, _∙_}
+use mathlib.Core.Bool.{Bool, true, false}
+use mathlib.Core.List.{List}
+use Prim.Native.Nat.{ℕ, zero, suc, _+_, _%_, _≤_}
+use native.Mathlib.Omega.{arith}
+use lib.ListN.{length}
+use Rattle.refusals.specs.Refusals.{Outcome, done, refused, unless, after}
+use Rattle.refusals.proofs.Laws.{does}
+use Rattle.places.specs.Places.{render}
+use Rattle.calendar.specs.TimeOfDay.{secondsOf, timeAfter, isLastSecond}
+use Rattle.calendar.proofs.Times.{Follows, good, seconds-within, time-after}
+use Rattle.record.specs.declared.Record.{Record}
+use Rattle.record.specs.Rule.{refusalOf}
+use Rattle.record.specs.Next.{nextSecondOf}
+use Rattle.record.proofs.NextLaws.{next-is-later}
+use Rattle.telegram.specs.declared.write.Choice.{Choice}
+use Rattle.telegram.specs.declared.write.Choice.the-variants.{Unnamed}
+use Rattle.telegram.specs.Reading.{readOf}
+use Rattle.telegram.specs.Writing.{bodyBytes, telegramOf, as6021, recordToWrite, controlOf, laid, written, laidIn}
+use Rattle.telegram.proofs.WriteLaws.{room}
+use Rattle.telegram.proofs.BackAndForth.{written-reads-back, accepted-is-written}
+use Rattle.telegram.proofs.Demand.{write-reads-back}
+use Rattle.demands.specs.Demand2.{Good, plain, advanced, ATelegramIsItsRow, ATelegramHasTheTablesLength, WrittenByTheTables, ReadByTheTables, TheReaderAcceptsExactlyWhatTheWriterCanMake, WhatIsWrittenReadsBack, WhatIsWrittenWithoutASettingReadsBack, WrittenWithAdvanceItReadsBackAsTheNextSecond, TheNextSecondIsOneLater, TheNextSecondOfADayIsOneLater}
+use Rattle.demands.proofs.TableLengths.{telegram-length}
+
+pub demand-2-is-its-row : ATelegramIsItsRow
+unfolding bodyBytes render
+demand-2-is-its-row rec = (refl, refl)
+
+pub demand-2-lengths : ATelegramHasTheTablesLength
+demand-2-lengths control rec = telegram-length control rec
+
+written-so : (control : Bool) (rec : Record) (n : ℕ) → Good rec → length (telegramOf control rec) ≤ n
+    → written (plain control) rec n ≡ done (telegramOf control rec)
+unfolding written
+written-so control rec n good fits = ap (λ o. after o (λ r. laid control r n)) (does rec good) ∙ room control rec n fits
+
+pub demand-2-written-by-the-tables : WrittenByTheTables
+demand-2-written-by-the-tables control rec buffer good fits =
+    let so = written-so control rec (length buffer) good fits in (so, ap (λ w. laidIn w buffer) so)
+
+pub demand-2-read-by-the-tables : ReadByTheTables
+demand-2-read-by-the-tables control bytes rec = (
+  λ read. let made = accepted-is-written control bytes rec read in (made .is-good, made .is-written),
+  λ fits. ap (readOf control) (sym (fits .1)) ∙ written-reads-back rec (fits .0) control,
+)
+
+-- what is written was asked for: the record that the choice names is not refused
+was-asked : (choice : Choice) (rec : Record) (room : ℕ) (bytes : List ℕ) → written choice rec room ≡ done bytes
+    → (same : Record) × (recordToWrite choice rec ≡ done same)
+unfolding written
+was-asked choice rec room bytes = go (recordToWrite choice rec) refl
+  where
+    go : (o : Outcome Record) → recordToWrite choice rec ≡ o → after o (λ r. laid (controlOf choice) r room) ≡ done bytes
+        → (same : Record) × (recordToWrite choice rec ≡ done same)
+    go (done same) is e = (same, is)
+    go (refused n) is e = let z : _≡_ {A = ℕ} 0 1 = cc in absurd (omega arith)
+
+pub demand-2-accepts-exactly : TheReaderAcceptsExactlyWhatTheWriterCanMake
+demand-2-accepts-exactly control bytes = (
+  λ read.
+      let made = accepted-is-written control bytes (read .0) (read .1) in (
+        plain control,
+        read .0,
+        length (telegramOf control (read .0)),
+        refl,
+        written-so control (read .0) _ (made .is-good) (omega arith) ∙ ap done (made .is-written),
+      ),
+  λ made.
+      let asked = was-asked (made .0) (made .1) (made .2) bytes (made .4) in
+      (asked .0, ap (λ c. readOf c bytes) (sym (made .3)) ∙ write-reads-back (made .0) (made .1) (made .2) bytes (made .4) ∙ asked .1),
+)
+
+-- a record that is judged good is the record itself
+judged-itself : (n : ℕ) (rec same : Record) → unless n rec ≡ done same → unless n rec ≡ done rec
+unfolding unless
+judged-itself zero rec same e = refl
+judged-itself (suc n) rec same e = let z : _≡_ {A = ℕ} 0 1 = cc in absurd (omega arith)
+
+pub demand-2-reads-back : WhatIsWrittenReadsBack
+demand-2-reads-back control rec room bytes e =
+    let asked = was-asked (plain control) rec room bytes e in
+    write-reads-back (plain control) rec room bytes e ∙ judged-itself (refusalOf rec) rec (asked .0) (asked .1)
+
+-- and a 6021 is made of the record itself
+made-itself : (n : ℕ) (rec same : Record) → after (unless n rec) as6021 ≡ done same → after (unless n rec) as6021 ≡ as6021 rec
+unfolding unless
+made-itself zero rec same e = refl
+made-itself (suc n) rec same e = let z : _≡_ {A = ℕ} 0 1 = cc in absurd (omega arith)
+
+pub demand-2-unnamed-reads-back : WhatIsWrittenWithoutASettingReadsBack
+demand-2-unnamed-reads-back rec room bytes e =
+    let asked = was-asked Unnamed rec room bytes e in
+    write-reads-back Unnamed rec room bytes e ∙ made-itself (refusalOf rec) rec (asked .0) (asked .1)
+
+pub demand-2-next-second : WrittenWithAdvanceItReadsBackAsTheNextSecond
+demand-2-next-second control rec room bytes e = write-reads-back (advanced control) rec room bytes e
+
+pub demand-2-one-later : TheNextSecondIsOneLater
+demand-2-one-later rec next local e f = next-is-later rec next local e f
+
+pub demand-2-one-later-in-a-day : TheNextSecondOfADayIsOneLater
+unfolding nextSecondOf
+demand-2-one-later-in-a-day layout time none =
+    let next = time-after time (good time none) in
+    (timeAfter time, rw none (does _ refl), later (isLastSecond time) next)
+  where
+    later : (carry : Bool) → Follows time (timeAfter time) carry → secondsOf (timeAfter time) ≡ (secondsOf time + 1) % 86400
+    later true f = omega (arith, f .second, seconds-within (timeAfter time) (f .good), seconds-within time (good time none))
+    later false f = omega (arith, f .second, seconds-within (timeAfter time) (f .good))

@@ -1,0 +1,165 @@
+-- When each entry point refuses: by the first of its rules that holds. Assumes nothing.
+use mathlib.Core.Path.{_≡_, refl, ap, sym, _∙_}
+use mathlib.Core.Bool.{Bool, true, false, cond, not, _&&_}
+use mathlib.Core.List.{List, [], _∷_, _++_, map, append-assoc}
+use Prim.Native.Nat.{ℕ, _+_, _-_, _*_}
+use native.Mathlib.Omega.{arith}
+use lib.Dec.{ltb}
+use lib.ListN.{length}
+use Rattle.refusals.specs.Refusals.{_when_, _else_, Outcome, done, refused, unless, after}
+use Rattle.refusals.proofs.Laws.{else-assoc}
+use Rattle.places.specs.Places.{fixedHolds, decimalHolds, codeHolds, every}
+use Rattle.calendar.specs.Calendar.{dateInRange, dayExists, dayOf, dayAfter}
+use Rattle.calendar.specs.TimeOfDay.{timeInRange, timeRefusal, secondsOf, isLastSecond, timeAfter}
+use Rattle.record.specs.declared.DatedLayout.the-variants.{L6021}
+use Rattle.record.specs.declared.Record.{Record}
+use Rattle.record.specs.declared.Record.the-variants.{Dated, TimeOnly}
+use Rattle.record.specs.Rule.{statusAllowed, weekdayAllowed, weekdayAgrees, datedRefusal, refusalOf}
+use Rattle.record.specs.Next.{weekdayAfter, recordAfter, isLastOfCalendar, nextSecondOf}
+use Rattle.record.specs.Utc.{seasonShift, toUtc, utcSeconds}
+use Rattle.layouts.specs.declared.Layout.{Layout}
+use Rattle.layouts.specs.Layouts.{rowOf, ownLayout, layoutOf}
+use Rattle.telegram.specs.declared.write.Choice.{Choice}
+use Rattle.telegram.specs.declared.write.Choice.the-variants.{Named, Unnamed}
+use Rattle.telegram.specs.Reading.{bodyOf, framed, carried, bodyRefusal, readOf}
+use Rattle.telegram.specs.Writing.{telegramOf, as6021, judgedOf, laid, written}
+use Rattle.clock.specs.declared.Clock.{Clock}
+use Rattle.clock.specs.Stepping.{carriesDate, stepOf}
+use Rattle.clock.specs.Answers.{stepAnswer}
+use Rattle.clock.proofs.StepLaws.{lowest-first}
+use Rattle.demands.specs.Lengths.{sevenLayouts, lengthOf}
+use Rattle.demands.specs.Numbers.{Rule, _givenWhen_, among}
+use Rattle.demands.specs.Rules.{recordRules, rulesIn, readingRules, nextSecondRules, writingRules, isBeforeUtc, utcRules, stepRules}
+use Rattle.demands.proofs.TableLengths.{telegram-length, found, length-in-table}
+use Rattle.demands.proofs.Refusing.{else-nothing, firstOf, first-of-both, _byFirst_, unless-by, then-by}
+
+-- the rule for a record
+pub record-rules : (rec : Record) → refusalOf rec ≡ firstOf (recordRules rec)
+unfolding datedRefusal timeRefusal
+record-rules (Dated layout status weekday date time) =
+    ap (λ n. 5 when not (statusAllowed layout status && weekdayAllowed weekday) else 6 when not (timeInRange time && dateInRange date) else 7 when not (dayExists date) else n)
+    (sym (else-nothing (8 when not (weekdayAgrees weekday date))))
+record-rules (TimeOnly layout time) = sym (else-nothing (6 when not (timeInRange time)))
+
+-- a number behind the record's
+behind-record : (rec : Record) (n : ℕ) (rules : List Rule) → n ≡ firstOf rules → (refusalOf rec else n) ≡ firstOf (recordRules rec ++ rules)
+behind-record rec n rules e =
+    ap (λ k. k else n) (record-rules rec) ∙ ap (λ k. firstOf (recordRules rec) else k) e ∙ sym (first-of-both (recordRules rec) rules)
+
+next-second-number : (rec : Record) → (refusalOf rec else 12 when isLastOfCalendar rec) ≡ firstOf (nextSecondRules rec)
+next-second-number rec =
+    behind-record rec (12 when isLastOfCalendar rec) (12 givenWhen isLastOfCalendar rec ∷ []) (sym (else-nothing (12 when isLastOfCalendar rec)))
+
+pub next-second-rules : (rec : Record) → nextSecondOf rec byFirst nextSecondRules rec
+unfolding nextSecondOf
+next-second-rules rec = unless-by _ (recordAfter rec) (nextSecondRules rec) (next-second-number rec)
+
+-- reading
+in-layout : (control : Bool) (bytes : List ℕ) (layout : Layout)
+    → unless (2 when (control && not (framed bytes)) else bodyRefusal layout (bodyOf control bytes)) (carried layout (bodyOf control bytes))
+    byFirst rulesIn control bytes (done layout)
+unfolding bodyRefusal
+in-layout control bytes layout =
+    let body = bodyOf control bytes in
+    let fixed = not (every fixedHolds (rowOf layout) body) in
+    let decimals = not (every decimalHolds (rowOf layout) body) in
+    let codes = not (every codeHolds (rowOf layout) body) in
+    unless-by _ (carried layout body) (rulesIn control bytes (done layout))
+    (ap (λ n. 2 when (control && not (framed bytes)) else n)
+    (sym (else-assoc (3 when fixed) (4 when decimals else 5 when codes) (refusalOf (carried layout body)))
+    ∙ ap (λ n. 3 when fixed else n) (sym (else-assoc (4 when decimals) (5 when codes) (refusalOf (carried layout body))))
+    ∙ ap (λ n. 3 when fixed else 4 when decimals else 5 when codes else n) (record-rules (carried layout body))))
+
+pub reading-rules : (control : Bool) (bytes : List ℕ) → readOf control bytes byFirst readingRules control bytes
+unfolding readOf unless
+reading-rules control bytes =
+    go (λ layout. unless (2 when (control && not (framed bytes)) else bodyRefusal layout body) (carried layout body)) (layoutOf body)
+    (not (among (map (lengthOf control) sevenLayouts) (length bytes)))
+    (found body ∙ ap (λ t. unless (firstOf (1 givenWhen not t ∷ [])) tt) (length-in-table control bytes))
+    (in-layout control bytes)
+  where
+    body : List ℕ
+    body = bodyOf control bytes
+
+    go : (next : Layout → Outcome Record) (o : Outcome Layout) (wrong : Bool) → o byFirst 1 givenWhen wrong ∷ []
+        → ((layout : Layout) → next layout byFirst rulesIn control bytes (done layout))
+        → after o next byFirst 1 givenWhen wrong ∷ rulesIn control bytes o
+    go next (done layout) false e on = on layout
+    go next (done layout) true e on = let z : _≡_ {A = ℕ} 0 1 = cc in absurd (omega arith)
+    go next (refused n) wrong e on = e
+
+-- writing
+next-layout : (rec : Record) → ownLayout (recordAfter rec) ≡ ownLayout rec
+next-layout (Dated layout status weekday date time) = go (isLastSecond time)
+  where
+    go : (last : Bool)
+        → ownLayout (cond last (Dated layout status (weekdayAfter weekday) (dayAfter date) (timeAfter time)) (Dated layout status weekday date (timeAfter time)))
+        ≡ ownLayout (Dated layout status weekday date time)
+    go true = refl
+    go false = refl
+next-layout (TimeOnly layout time) = refl
+
+in-room : (control : Bool) (rec : Record) (room size : ℕ) → length (telegramOf control rec) ≡ size → laid control rec room byFirst 13 givenWhen ltb room size ∷ []
+unfolding laid
+in-room control rec room size e =
+    unless-by _ (telegramOf control rec) (13 givenWhen ltb room size ∷ []) (ap (λ n. 13 when ltb room n) e ∙ sym (else-nothing (13 when ltb room size)))
+
+unnamed : (rec : Record) (room : ℕ)
+    → after (as6021 rec) (λ r. laid false r room) byFirst 13 givenWhen (carriesDate rec && ltb room 16) ∷ 14 givenWhen not (carriesDate rec) ∷ []
+unfolding unless
+unnamed (Dated layout status weekday date time) room =
+    in-room false (Dated L6021 status weekday date time) room 16 (telegram-length false (Dated L6021 status weekday date time))
+unnamed (TimeOnly layout time) room = refl
+
+-- one thing after another, and another after it
+after-both : {A B C : Type 0} (o : Outcome A) (f : A → Outcome B) (g : B → Outcome C) → after (after o f) g ≡ after o (λ a. after (f a) g)
+after-both (done value) f g = refl
+after-both (refused n) f g = refl
+
+pub writing-rules : (choice : Choice) (rec : Record) (room : ℕ) → written choice rec room byFirst writingRules choice rec room
+unfolding written nextSecondOf
+writing-rules (Named setting) rec room = go (setting .advance)
+  where
+    control : Bool
+    control = setting .control
+
+    short : List Rule
+    short = 13 givenWhen ltb room (lengthOf (setting .control) (ownLayout rec)) ∷ []
+
+    lays : Record → Outcome (List ℕ)
+    lays r = laid (setting .control) r room
+
+    go : (advance : Bool) → after (cond advance (nextSecondOf rec) (judgedOf rec)) lays byFirst recordRules rec ++ 12 givenWhen (advance && isLastOfCalendar rec) ∷ short
+    go true =
+        then-by (refusalOf rec else 12 when isLastOfCalendar rec) (recordAfter rec) lays (nextSecondRules rec) short (next-second-number rec)
+        (in-room control (recordAfter rec) room _ (telegram-length control (recordAfter rec) ∙ ap (lengthOf control) (next-layout rec)))
+        ∙ ap (λ rules. unless (firstOf rules) tt) (append-assoc (recordRules rec) (12 givenWhen isLastOfCalendar rec ∷ []) short)
+    go false =
+        then-by (refusalOf rec) rec lays (recordRules rec) (12 givenWhen false ∷ short) (record-rules rec)
+        (in-room control rec room _ (telegram-length control rec))
+writing-rules Unnamed rec room =
+    ap (λ o. after o (λ v. done tt)) (after-both (judgedOf rec) as6021 (λ r. laid false r room))
+    ∙ then-by (refusalOf rec) rec (λ good. after (as6021 good) (λ r. laid false r room)) (recordRules rec) _ (record-rules rec) (unnamed rec room)
+
+-- UTC seconds and the station clock
+pub utc-rules : (rec : Record) → utcSeconds rec byFirst utcRules rec
+unfolding toUtc timeRefusal unless
+utc-rules (Dated layout status weekday date time) =
+    let rec = Dated layout status weekday date time in
+    let local = 86400 * dayOf date + secondsOf time in
+    let later = 12 givenWhen isBeforeUtc rec ∷ 14 givenWhen false ∷ [] in
+    then-by (refusalOf rec) (record { 0 = local }) (λ l. toUtc l status) (recordRules rec) later (record-rules rec)
+    (unless-by (12 when isBeforeUtc rec) (record { 0 = local - seasonShift status }) later (sym (else-nothing (12 when isBeforeUtc rec))))
+utc-rules (TimeOnly layout time) = go (not (timeInRange time))
+  where
+    go : (wrong : Bool) → refused (6 when wrong else 14) ≡ unless {A = Unit {0}} (6 when wrong else 14) tt
+    go true = refl
+    go false = refl
+
+pub step-rules : (clock : Clock) → stepAnswer (stepOf clock .answer) byFirst stepRules (clock .rec)
+step-rules clock =
+    let last = 12 when isLastOfCalendar (clock .rec) in
+    let dateless = 14 when not (carriesDate (clock .rec)) in
+    ap (λ o. after o (λ v. done tt)) (lowest-first clock)
+    ∙ unless-by _ tt (stepRules (clock .rec))
+    (behind-record (clock .rec) (last else dateless) _ (ap (λ n. last else n) (sym (else-nothing dateless))))

@@ -1,0 +1,10 @@
+-- A text as bytes, so that the telegrams of the boundary table can be read.
+use mathlib.Core.List.{List, [] as none, _∷_ as _then_}
+use Prim.Native.Nat.{ℕ}
+use Prim.Native.Char.{code}
+use Prim.Native.String.{String, [], _∷_}
+
+-- the code of each character; all of them are ASCII, where the code is the byte
+abbrev pub ascii : String → List ℕ
+ascii [] = none
+ascii (character ∷ characters) = code character then ascii characters

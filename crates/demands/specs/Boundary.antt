@@ -1,0 +1,103 @@
+-- The boundary table of document 01, P1 to P13, and the one statement over it.
+use mathlib.Core.Bool.{true, false}
+use mathlib.Core.List.{List, [], _∷_, _++_}
+use mathlib.Core.Path.{_≡_}
+use Prim.Native.Nat.{ℕ}
+use Rattle.refusals.specs.Refusals.{Outcome, done, refused}
+use Rattle.calendar.specs.declared.date.Date.{Date}
+use Rattle.calendar.specs.declared.time.Time.{Time}
+use Rattle.record.specs.declared.DatedLayout.the-variants.{L6021, L5500}
+use Rattle.record.specs.declared.TimeLayout.the-variants.{T6021, T5500}
+use Rattle.record.specs.declared.Reception.the-variants.{Crystal, Radio, High}
+use Rattle.record.specs.declared.Status.{Status}
+use Rattle.record.specs.declared.Record.{Record}
+use Rattle.record.specs.declared.Record.the-variants.{Dated, TimeOnly}
+use Rattle.record.specs.declared.utc.UtcSeconds.{UtcSeconds}
+use Rattle.record.specs.Utc.{utcSeconds}
+use Rattle.telegram.specs.Reading.{readOf}
+use Rattle.board.specs.declared.Parity.the-variants.{None}
+use Rattle.board.specs.declared.of_6036.Parameter.{Parameter}
+use Rattle.board.specs.Of6036.{parameterIn}
+use Rattle.demands.specs.Ascii.{ascii}
+
+-- a row: a telegram without STX and ETX, a parameter byte, or a record to be put in UTC seconds; and its outcome
+pub data Row : Type 0 where
+  telegram : List ℕ → Outcome Record → Row
+  parameter : ℕ → Parameter → Row
+  toUtc : Record → Outcome UtcSeconds → Row
+
+-- a row holds: a telegram has its outcome without control characters, and with them between STX and ETX
+abbrev pub Holds : Row → Type 0
+Holds (telegram bytes outcome) = (readOf false bytes ≡ outcome) × (readOf true (2 ∷ bytes ++ 3 ∷ []) ≡ outcome)
+Holds (parameter byte setting) = parameterIn byte ≡ setting
+Holds (toUtc rec outcome) = utcSeconds rec ≡ outcome
+
+abbrev pub EveryRowHolds : List Row → Type 0
+EveryRowHolds [] = Unit {0}
+EveryRowHolds (row ∷ rows) = Holds row × EveryRowHolds rows
+
+-- the words of the table
+abbrev pub lfCr : List ℕ
+lfCr = 10 ∷ 13 ∷ []
+
+abbrev pub crLf : List ℕ
+crLf = 13 ∷ 10 ∷ []
+
+abbrev pub date : ℕ → ℕ → ℕ → Date
+date year month day = record { year = year; month = month; day = day }
+
+abbrev pub time : ℕ → ℕ → ℕ → Time
+time hour minute second = record { hour = hour; minute = minute; second = second }
+
+abbrev pub highDaylight : Status
+highDaylight = record { reception = High; daylight = true; utc = false; announced = false }
+
+abbrev pub highStandard : Status
+highStandard = record { reception = High; daylight = false; utc = false; announced = false }
+
+abbrev pub highUtc : Status
+highUtc = record { reception = High; daylight = false; utc = true; announced = false }
+
+abbrev pub crystalStandard : Status
+crystalStandard = record { reception = Crystal; daylight = false; utc = false; announced = false }
+
+abbrev pub crystalStandardAnnounced : Status
+crystalStandardAnnounced = record { reception = Crystal; daylight = false; utc = false; announced = true }
+
+abbrev pub radioStandard : Status
+radioStandard = record { reception = Radio; daylight = false; utc = false; announced = false }
+
+-- in the table's order. A record: layout, status, weekday, date, time
+abbrev pub boundaryTable : List Row
+boundaryTable =
+    -- P1
+    telegram (ascii "E3123456170496" ++ lfCr) (done (Dated L6021 highDaylight 3 (date 1996 4 17) (time 12 34 56)))
+    -- P2: weekday 4
+    ∷ telegram (ascii "E4123456170496" ++ lfCr) (refused 8)
+    -- P3
+    ∷ telegram (ascii "1 123456 030196 3" ++ crLf) (done (Dated L5500 crystalStandard 3 (date 1996 1 3) (time 12 34 56)))
+    -- P4: status 3
+    ∷ telegram (ascii "3 123456 030196 3" ++ crLf) (done (Dated L5500 crystalStandardAnnounced 3 (date 1996 1 3) (time 12 34 56)))
+    -- P5: status A
+    ∷ telegram (ascii "A 123456 030196 3" ++ crLf) (refused 5)
+    -- P6
+    ∷ telegram (ascii "C6120000290297" ++ lfCr) (refused 7)
+    -- P7
+    ∷ telegram (ascii "C2120000290200" ++ lfCr) (done (Dated L6021 highStandard 2 (date 2000 2 29) (time 12 0 0)))
+    -- P8
+    ∷ telegram (ascii "235959" ++ lfCr) (done (TimeOnly T6021 (time 23 59 59)))
+    -- P9
+    ∷ telegram (ascii "235959" ++ crLf) (done (TimeOnly T5500 (time 23 59 59)))
+    -- P10
+    ∷ telegram (ascii "240000" ++ lfCr) (refused 6)
+    -- P11
+    ∷ telegram (ascii "CB123456030196" ++ lfCr) (done (Dated L6021 highUtc 3 (date 1996 1 3) (time 12 34 56)))
+    -- P12: CET, 8 bits, no parity, 2 stop, 600
+    ∷ parameter 0xA6 (record { utc = false; «data_bits» = 8; parity = None; «stop_bits» = 2; baud = 600 })
+    -- P13
+    ∷ toUtc (Dated L6021 radioStandard 2 (date 1980 1 1) (time 0 30 0)) (refused 12)
+    ∷ []
+
+-- "proved, together, by one statement over the table"
+abbrev pub TheBoundaryTableHolds : Type 0
+TheBoundaryTableHolds = EveryRowHolds boundaryTable

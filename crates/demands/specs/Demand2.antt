@@ -1,0 +1,101 @@
+-- Demand 2, sentence by sentence. "A record holds its layout and the fields that layout carries" and nothing else, so that equal
+-- records are records equal on each field the layout carries.
+use mathlib.Core.Bool.{Bool, true, false}
+use mathlib.Core.List.{List, [], _∷_, _++_, map}
+use mathlib.Core.Logic.{_↔_}
+use mathlib.Core.Path.{_≡_}
+use Prim.Native.Nat.{ℕ, _+_, _%_, _≤_}
+use lib.ListN.{length, drop}
+use Rattle.refusals.specs.Refusals.{done}
+use Rattle.places.specs.Places.{byteAt}
+use Rattle.calendar.specs.TimeOfDay.{secondsOf}
+use Rattle.calendar.specs.declared.time.Time.{Time}
+use Rattle.record.specs.declared.TimeLayout.{TimeLayout}
+use Rattle.record.specs.declared.Record.{Record}
+use Rattle.record.specs.declared.Record.the-variants.{TimeOnly}
+use Rattle.record.specs.declared.utc.LocalSeconds.{LocalSeconds}
+use Rattle.record.specs.Rule.{refusalOf}
+use Rattle.record.specs.Next.{nextSecondOf}
+use Rattle.record.specs.Utc.{localSeconds}
+use Rattle.layouts.specs.Layouts.{rowOf, ownLayout}
+use Rattle.layouts.specs.Coding.{digitsOut}
+use Rattle.telegram.specs.declared.write.Choice.{Choice}
+use Rattle.telegram.specs.declared.write.Choice.the-variants.{Named, Unnamed}
+use Rattle.telegram.specs.Reading.{readOf}
+use Rattle.telegram.specs.Writing.{telegramOf, as6021, controlOf, written, laidIn}
+use Rattle.demands.specs.Lengths.{lengthOf}
+
+-- a record that no rule refuses
+abbrev pub Good : Record → Type 0
+Good rec = refusalOf rec ≡ 0
+
+-- "a named setting says control characters or not and second advance or not"
+abbrev pub plain : Bool → Choice
+plain control = Named (record { control = control; advance = false })
+
+abbrev pub advanced : Bool → Choice
+advanced control = Named (record { control = control; advance = true })
+
+-- "Every telegram of the seven layouts in document 01 is read and written exactly as the makers' tables there say."
+-- The table: `rowOf` has a row of places for each layout. A telegram is its layout's row, each place filled by its digit,
+-- between STX and ETX; without control characters both are missing.
+abbrev pub ATelegramIsItsRow : Type 0
+ATelegramIsItsRow =
+    (rec : Record)
+    → (telegramOf true rec ≡ 2 ∷ map (byteAt (digitsOut rec)) (rowOf (ownLayout rec)) ++ 3 ∷ [])
+    × (telegramOf false rec ≡ map (byteAt (digitsOut rec)) (rowOf (ownLayout rec)))
+
+-- It has the table's length.
+abbrev pub ATelegramHasTheTablesLength : Type 0
+ATelegramHasTheTablesLength = (control : Bool) (rec : Record) → length (telegramOf control rec) ≡ lengthOf control (ownLayout rec)
+
+-- Where there is room, a good record is written so: its telegram, and behind it the buffer as it was.
+abbrev pub WrittenByTheTables : Type 0
+WrittenByTheTables =
+    (control : Bool) (rec : Record) (buffer : List ℕ) → Good rec → length (telegramOf control rec) ≤ length buffer
+    → (written (plain control) rec (length buffer) ≡ done (telegramOf control rec))
+    × (laidIn (written (plain control) rec (length buffer)) buffer ≡ telegramOf control rec ++ drop (length (telegramOf control rec)) buffer)
+
+-- Bytes are read as a record exactly where that record is good and its telegram is those bytes.
+abbrev pub ReadByTheTables : Type 0
+ReadByTheTables =
+    (control : Bool) (bytes : List ℕ) (rec : Record) → (readOf control bytes ≡ done rec) ↔ (Good rec × (telegramOf control rec ≡ bytes))
+
+-- "The reader accepts exactly the telegrams the writer can make."
+abbrev pub Accepted : Bool → List ℕ → Type 0
+Accepted control bytes = (rec : Record) × (readOf control bytes ≡ done rec)
+
+-- of some record, in some room, with any setting or none that asks for those control characters
+abbrev pub CanBeMade : Bool → List ℕ → Type 0
+CanBeMade control bytes = (choice : Choice) × (rec : Record) × (room : ℕ) × (controlOf choice ≡ control) × (written choice rec room ≡ done bytes)
+
+abbrev pub TheReaderAcceptsExactlyWhatTheWriterCanMake : Type 0
+TheReaderAcceptsExactlyWhatTheWriterCanMake = (control : Bool) (bytes : List ℕ) → Accepted control bytes ↔ CanBeMade control bytes
+
+-- "What is written reads back equal on each field the layout carries;"
+abbrev pub WhatIsWrittenReadsBack : Type 0
+WhatIsWrittenReadsBack =
+    (control : Bool) (rec : Record) (room : ℕ) (bytes : List ℕ) → written (plain control) rec room ≡ done bytes
+    → readOf control bytes ≡ done rec
+
+-- (where no setting is named, as a 6021 with the same fields)
+abbrev pub WhatIsWrittenWithoutASettingReadsBack : Type 0
+WhatIsWrittenWithoutASettingReadsBack =
+    (rec : Record) (room : ℕ) (bytes : List ℕ) → written Unnamed rec room ≡ done bytes → readOf false bytes ≡ as6021 rec
+
+-- "written with second advance, it reads back as the next second."
+abbrev pub WrittenWithAdvanceItReadsBackAsTheNextSecond : Type 0
+WrittenWithAdvanceItReadsBackAsTheNextSecond =
+    (control : Bool) (rec : Record) (room : ℕ) (bytes : List ℕ) → written (advanced control) rec room ≡ done bytes
+    → readOf control bytes ≡ nextSecondOf rec
+
+-- The next second is one second later: of the calendar where there is a date, else of the day.
+abbrev pub TheNextSecondIsOneLater : Type 0
+TheNextSecondIsOneLater =
+    (rec next : Record) (local : LocalSeconds) → nextSecondOf rec ≡ done next → localSeconds rec ≡ done local
+    → localSeconds next ≡ done (record { 0 = local .0 + 1 })
+
+abbrev pub TheNextSecondOfADayIsOneLater : Type 0
+TheNextSecondOfADayIsOneLater =
+    (layout : TimeLayout) (time : Time) → Good (TimeOnly layout time)
+    → (next : Time) × (nextSecondOf (TimeOnly layout time) ≡ done (TimeOnly layout next)) × (secondsOf next ≡ (secondsOf time + 1) % 86400)

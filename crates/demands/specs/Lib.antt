@@ -1,0 +1,8 @@
+pub mod Lengths
+pub mod Numbers
+pub mod Rules
+pub mod Demand1
+pub mod Demand2
+pub mod Demand3
+pub mod Ascii
+pub mod Boundary

@@ -1,0 +1,82 @@
+-- Document 01, "Refusal numbers": for each entry point its rows of the table, "given exactly when", in the order of their numbers.
+use mathlib.Core.Bool.{Bool, false, not, _&&_}
+use mathlib.Core.List.{List, [], _∷_, _++_, map}
+use Prim.Native.Nat.{ℕ, _+_, _*_}
+use lib.Dec.{ltb}
+use lib.ListN.{length}
+use Rattle.refusals.specs.Refusals.{Outcome, done, refused}
+use Rattle.places.specs.Places.{fixedHolds, decimalHolds, codeHolds, every}
+use Rattle.calendar.specs.Calendar.{dateInRange, dayExists, dayOf}
+use Rattle.calendar.specs.TimeOfDay.{timeInRange, secondsOf}
+use Rattle.calendar.specs.declared.date.Date.{Date}
+use Rattle.record.specs.declared.Record.{Record}
+use Rattle.record.specs.declared.Record.the-variants.{Dated, TimeOnly}
+use Rattle.record.specs.Rule.{statusAllowed, weekdayAllowed, weekdayAgrees}
+use Rattle.record.specs.Next.{isLastOfCalendar}
+use Rattle.record.specs.Utc.{seasonShift}
+use Rattle.layouts.specs.declared.Layout.{Layout}
+use Rattle.layouts.specs.Layouts.{rowOf, ownLayout, layoutOf}
+use Rattle.telegram.specs.declared.write.Choice.{Choice}
+use Rattle.telegram.specs.declared.write.Choice.the-variants.{Named, Unnamed}
+use Rattle.telegram.specs.Reading.{bodyOf, framed, carried}
+use Rattle.clock.specs.Stepping.{carriesDate}
+use Rattle.demands.specs.Lengths.{sevenLayouts, lengthOf}
+use Rattle.demands.specs.Numbers.{Rule, _givenWhen_, among}
+
+-- a date: 6 "day, month or year out of range", 7 "no such day in that month"
+abbrev pub dateRules : Date → List Rule
+dateRules date = 6 givenWhen not (dateInRange date) ∷ 7 givenWhen not (dayExists date) ∷ []
+
+-- a record: 5 "status or weekday not one the layout allows", 6 "out of range", 7 "no such day in that month", 8 "weekday disagrees
+-- with the date"; "a time-only record is checked for its time alone"
+abbrev pub recordRules : Record → List Rule
+recordRules (Dated layout status weekday date time) =
+    5 givenWhen not (statusAllowed layout status && weekdayAllowed weekday)
+    ∷ 6 givenWhen not (timeInRange time && dateInRange date)
+    ∷ 7 givenWhen not (dayExists date)
+    ∷ 8 givenWhen not (weekdayAgrees weekday date)
+    ∷ []
+recordRules (TimeOnly layout time) = 6 givenWhen not (timeInRange time) ∷ []
+
+-- reading, once the layout is found: 2 "control characters wanted, first isn't STX or last isn't ETX", 3 "a space, CR or LF of the
+-- layout isn't in its place", 4 "a decimal place holds no 0 to 9", 5 a status or weekday character that is none, then the record's
+abbrev pub rulesIn : Bool → List ℕ → Outcome Layout → List Rule
+rulesIn control bytes (done layout) =
+    2 givenWhen (control && not (framed bytes))
+    ∷ 3 givenWhen not (every fixedHolds (rowOf layout) (bodyOf control bytes))
+    ∷ 4 givenWhen not (every decimalHolds (rowOf layout) (bodyOf control bytes))
+    ∷ 5 givenWhen not (every codeHolds (rowOf layout) (bodyOf control bytes))
+    ∷ recordRules (carried layout (bodyOf control bytes))
+rulesIn control bytes (refused n) = []
+
+-- reading: 1 "length isn't one in the table", then the rest
+abbrev pub readingRules : Bool → List ℕ → List Rule
+readingRules control bytes =
+    1 givenWhen not (among (map (lengthOf control) sevenLayouts) (length bytes)) ∷ rulesIn control bytes (layoutOf (bodyOf control bytes))
+
+-- the next second: 12 "after 31.12.2079 23:59:59"
+abbrev pub nextSecondRules : Record → List Rule
+nextSecondRules rec = recordRules rec ++ 12 givenWhen isLastOfCalendar rec ∷ []
+
+-- writing: 13 "the lent buffer is shorter than what is to be written"; without a named setting a 6021 is written, whose 16 bytes
+-- need a date: 14 "a date is needed and the layout carries none"
+abbrev pub writingRules : Choice → Record → ℕ → List Rule
+writingRules (Named setting) rec room =
+    recordRules rec
+    ++ 12 givenWhen (setting .advance && isLastOfCalendar rec)
+    ∷ 13 givenWhen ltb room (lengthOf (setting .control) (ownLayout rec))
+    ∷ []
+writingRules Unnamed rec room =
+    recordRules rec ++ 13 givenWhen (carriesDate rec && ltb room 16) ∷ 14 givenWhen not (carriesDate rec) ∷ []
+
+-- UTC seconds: 12 "before 1.1.1980 00:00 UTC"; a time-only record: 14
+abbrev pub isBeforeUtc : Record → Bool
+isBeforeUtc (Dated layout status weekday date time) = ltb (86400 * dayOf date + secondsOf time) (seasonShift status)
+isBeforeUtc (TimeOnly layout time) = false
+
+abbrev pub utcRules : Record → List Rule
+utcRules rec = recordRules rec ++ 12 givenWhen isBeforeUtc rec ∷ 14 givenWhen not (carriesDate rec) ∷ []
+
+-- a step of the station clock: the next second's, and "a time-only record gives 14 here"
+abbrev pub stepRules : Record → List Rule
+stepRules rec = recordRules rec ++ 12 givenWhen isLastOfCalendar rec ∷ 14 givenWhen not (carriesDate rec) ∷ []
