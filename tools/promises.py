@@ -3,7 +3,8 @@
 
 Each `pub fn` of a library must have an `ensures`, must have no `requires`, and must have a row in docs/PROMISES.md
 that names it by its path, as `calendar::date::day_number`, and at least two must-fail edits of its crate. A row that
-names no such function or edit fails too, and so does an edit that no row names. (A program offers its functions to nobody.)
+names no such function or edit fails too, and so does an edit that no row names. A row on a demand names edits of the crate
+`demands`. (A program offers its functions to nobody.)
 """
 import pathlib
 import re
@@ -13,6 +14,7 @@ ROOT = pathlib.Path(__file__).resolve().parent.parent
 HEAD = re.compile(r"^(\s*)pub (?:extern \"C\" )?fn (\w+)")
 IMPL = re.compile(r"^impl (\w+)")
 ROW = re.compile(r"^\| `([\w:]+)` \|(.*)$", re.M)
+DEMAND = re.compile(r"^\| (?:demand|boundary|wrong)[^|]*\|(.*)$", re.M)
 EDIT = re.compile(r"\(`(\w+)`\)")
 
 
@@ -50,18 +52,17 @@ def sources():
             yield from sorted(crate.glob("src/**/*.rt"))
 
 
-def edit_faults(rows):
+def edit_faults(page, rows):
     """Edits that a row names and that are not there, too few of them, and edits that no row names."""
-    named = set()
+    named = {("demands", label) for row in DEMAND.findall(page) for label in EDIT.findall(row)}
     for path, row in rows:
-        crate = path.split("::")[0]
-        labels = EDIT.findall(row)
-        if len(set(labels)) < 2:
+        labels = set(EDIT.findall(row))
+        if len(labels) < 2:
             yield f"docs/PROMISES.md names fewer than two edits for {path}"
-        for label in labels:
-            named.add((crate, label))
-            if not (ROOT / "crates" / crate / "must-fail" / f"{label}.edit").exists():
-                yield f"docs/PROMISES.md names {crate}/{label}, which is no edit"
+        named |= {(path.split("::")[0], label) for label in labels}
+    for crate, label in sorted(named):
+        if not (ROOT / "crates" / crate / "must-fail" / f"{label}.edit").exists():
+            yield f"docs/PROMISES.md names {crate}/{label}, which is no edit"
     for edit in sorted((ROOT / "crates").glob("*/must-fail/*.edit")):
         if (edit.parts[-3], edit.stem) not in named:
             yield f"docs/PROMISES.md does not name the edit {edit.parts[-3]}/{edit.stem}"
@@ -77,11 +78,12 @@ def main():
                 faults.append(f"{where} has no ensures")
             if any(line.startswith("requires") for line in head):
                 faults.append(f"{where} has a requires")
-    rows = ROW.findall((ROOT / "docs" / "PROMISES.md").read_text(encoding="utf-8"))
+    page = (ROOT / "docs" / "PROMISES.md").read_text(encoding="utf-8")
+    rows = ROW.findall(page)
     listed = {path for path, _ in rows}
     faults += [f"docs/PROMISES.md does not list {path}" for path in sorted(seen - listed)]
     faults += [f"docs/PROMISES.md lists {path}, which is no public function" for path in sorted(listed - seen)]
-    faults += edit_faults(rows)
+    faults += edit_faults(page, rows)
     for fault in faults:
         print(fault)
     print(f"promises: {len(seen)} public functions, {len(faults)} faults")

@@ -6,3 +6,4 @@ pub mod Demand1OfTheLine
 pub mod Demand2Holds
 pub mod Demand3Holds
 pub mod BoundaryHolds
+pub mod ShutOut

@@ -6,7 +6,7 @@ use mathlib.Core.Logic.{_↔_}
 use mathlib.Core.Path.{_≡_}
 use Prim.Native.Nat.{ℕ, _+_, _%_, _≤_}
 use lib.ListN.{length, drop}
-use Rattle.refusals.specs.Refusals.{done}
+use Rattle.refusals.specs.Refusals.{Outcome, done}
 use Rattle.places.specs.Places.{byteAt}
 use Rattle.calendar.specs.TimeOfDay.{secondsOf}
 use Rattle.calendar.specs.declared.time.Time.{Time}
@@ -21,8 +21,8 @@ use Rattle.layouts.specs.Layouts.{rowOf, ownLayout}
 use Rattle.layouts.specs.Coding.{digitsOut}
 use Rattle.telegram.specs.declared.write.Choice.{Choice}
 use Rattle.telegram.specs.declared.write.Choice.the-variants.{Named, Unnamed}
-use Rattle.telegram.specs.Reading.{readOf}
-use Rattle.telegram.specs.Writing.{telegramOf, as6021, controlOf, written, laidIn}
+use Rattle.telegram.specs.Writing.{telegramOf, as6021, controlOf, laidIn}
+use Rattle.demands.specs.Programs.{reads, writes}
 use Rattle.demands.specs.Lengths.{lengthOf}
 
 -- a record that no rule refuses
@@ -50,24 +50,30 @@ abbrev pub ATelegramHasTheTablesLength : Type 0
 ATelegramHasTheTablesLength = (control : Bool) (rec : Record) → length (telegramOf control rec) ≡ lengthOf control (ownLayout rec)
 
 -- Where there is room, a good record is written so: its telegram, and behind it the buffer as it was.
-abbrev pub WrittenByTheTables : Type 0
-WrittenByTheTables =
+abbrev pub WritesByTheTables : (Choice → Record → ℕ → Outcome (List ℕ)) → Type 0
+WritesByTheTables write =
     (control : Bool) (rec : Record) (buffer : List ℕ) → Good rec → length (telegramOf control rec) ≤ length buffer
-    → (written (plain control) rec (length buffer) ≡ done (telegramOf control rec))
-    × (laidIn (written (plain control) rec (length buffer)) buffer ≡ telegramOf control rec ++ drop (length (telegramOf control rec)) buffer)
+    → (write (plain control) rec (length buffer) ≡ done (telegramOf control rec))
+    × (laidIn (write (plain control) rec (length buffer)) buffer ≡ telegramOf control rec ++ drop (length (telegramOf control rec)) buffer)
+
+abbrev pub WrittenByTheTables : Type 0
+WrittenByTheTables = WritesByTheTables writes
 
 -- Bytes are read as a record exactly where that record is good and its telegram is those bytes.
+abbrev pub ReadsByTheTables : (Bool → List ℕ → Outcome Record) → Type 0
+ReadsByTheTables read =
+    (control : Bool) (bytes : List ℕ) (rec : Record) → (read control bytes ≡ done rec) ↔ (Good rec × (telegramOf control rec ≡ bytes))
+
 abbrev pub ReadByTheTables : Type 0
-ReadByTheTables =
-    (control : Bool) (bytes : List ℕ) (rec : Record) → (readOf control bytes ≡ done rec) ↔ (Good rec × (telegramOf control rec ≡ bytes))
+ReadByTheTables = ReadsByTheTables reads
 
 -- "The reader accepts exactly the telegrams the writer can make."
 abbrev pub Accepted : Bool → List ℕ → Type 0
-Accepted control bytes = (rec : Record) × (readOf control bytes ≡ done rec)
+Accepted control bytes = (rec : Record) × (reads control bytes ≡ done rec)
 
 -- of some record, in some room, with any setting or none that asks for those control characters
 abbrev pub CanBeMade : Bool → List ℕ → Type 0
-CanBeMade control bytes = (choice : Choice) × (rec : Record) × (room : ℕ) × (controlOf choice ≡ control) × (written choice rec room ≡ done bytes)
+CanBeMade control bytes = (choice : Choice) × (rec : Record) × (room : ℕ) × (controlOf choice ≡ control) × (writes choice rec room ≡ done bytes)
 
 abbrev pub TheReaderAcceptsExactlyWhatTheWriterCanMake : Type 0
 TheReaderAcceptsExactlyWhatTheWriterCanMake = (control : Bool) (bytes : List ℕ) → Accepted control bytes ↔ CanBeMade control bytes
@@ -75,19 +81,19 @@ TheReaderAcceptsExactlyWhatTheWriterCanMake = (control : Bool) (bytes : List ℕ
 -- "What is written reads back equal on each field the layout carries;"
 abbrev pub WhatIsWrittenReadsBack : Type 0
 WhatIsWrittenReadsBack =
-    (control : Bool) (rec : Record) (room : ℕ) (bytes : List ℕ) → written (plain control) rec room ≡ done bytes
-    → readOf control bytes ≡ done rec
+    (control : Bool) (rec : Record) (room : ℕ) (bytes : List ℕ) → writes (plain control) rec room ≡ done bytes
+    → reads control bytes ≡ done rec
 
 -- (where no setting is named, as a 6021 with the same fields)
 abbrev pub WhatIsWrittenWithoutASettingReadsBack : Type 0
 WhatIsWrittenWithoutASettingReadsBack =
-    (rec : Record) (room : ℕ) (bytes : List ℕ) → written Unnamed rec room ≡ done bytes → readOf false bytes ≡ as6021 rec
+    (rec : Record) (room : ℕ) (bytes : List ℕ) → writes Unnamed rec room ≡ done bytes → reads false bytes ≡ as6021 rec
 
 -- "written with second advance, it reads back as the next second."
 abbrev pub WrittenWithAdvanceItReadsBackAsTheNextSecond : Type 0
 WrittenWithAdvanceItReadsBackAsTheNextSecond =
-    (control : Bool) (rec : Record) (room : ℕ) (bytes : List ℕ) → written (advanced control) rec room ≡ done bytes
-    → readOf control bytes ≡ nextSecondOf rec
+    (control : Bool) (rec : Record) (room : ℕ) (bytes : List ℕ) → writes (advanced control) rec room ≡ done bytes
+    → reads control bytes ≡ nextSecondOf rec
 
 -- The next second is one second later: of the calendar where there is a date, else of the day.
 abbrev pub TheNextSecondIsOneLater : Type 0

@@ -7,11 +7,13 @@ use lib.ListN.{length}
 use Rattle.record.specs.declared.Record.{Record}
 use Rattle.record.specs.Rule.{refusalOf}
 use Rattle.line.specs.declared.Reader.{Reader}
+use Rattle.line.specs.declared.Fed.{Fed}
 use Rattle.line.specs.declared.Heard.the-variants.{Nothing}
 use Rattle.line.specs.Line.{freshReader, wellFormed, endReader}
-use Rattle.line.specs.Cuts.{calls, Served, joined, heardFrom, readerAfter, UsedUp}
+use Rattle.line.specs.Cuts.{calls, Served, joined, heardOf, readerBehind, AllUsedUp}
 use Rattle.line.specs.Pieces.{passing}
 use Rattle.line.specs.Demand.{Sent, bytesSent, noStx, eventsSent, straySent}
+use Rattle.demands.specs.Programs.{feeds}
 use Rattle.demands.specs.Demand1.{AsDeclared}
 
 -- "Take any list of good telegrams, layouts mixed at will, each written with control characters and without second advance,"
@@ -26,23 +28,26 @@ NoStxAround [] behind = noStx behind ≡ true
 NoStxAround (sent ∷ others) behind = (noStx (sent .before) ≡ true) × NoStxAround others behind
 
 -- "Cut that line anywhere, and feed it to a fresh reader, each piece until it is used up."
--- (a `Served` is a piece with the number of calls made on it; `UsedUp` says that after those calls nothing of it is left)
+-- (a `Served` is a piece with the number of calls made on it; `AllUsedUp` says that after those calls nothing of it is left)
 -- "The reader hands back that list, no record more or fewer, no refusal, and the true number of stray bytes, counted modulo
 -- 4,294,967,296." (`eventsSent` is that list: the records in their order, each with its position and length)
-abbrev pub TheReaderHandsBackThatList : Type 0
-TheReaderHandsBackThatList =
+abbrev pub HandsBackThatList : (Reader → List ℕ → Fed) → Type 0
+HandsBackThatList feed =
     (sents : List Sent) (behind : List ℕ) → GoodTelegrams sents → NoStxAround sents behind
-    → (served : List Served) → joined served ≡ bytesSent sents behind → UsedUp freshReader served
-    → (heardFrom freshReader served ≡ eventsSent 0 sents)
-    × (readerAfter freshReader served .stray ≡ straySent sents behind % 4294967296)
-    × (endReader (readerAfter freshReader served) .heard ≡ Nothing)
+    → (served : List Served) → joined served ≡ bytesSent sents behind → AllUsedUp feed freshReader served
+    → (heardOf feed freshReader served ≡ eventsSent 0 sents)
+    × (readerBehind feed freshReader served .stray ≡ straySent sents behind % 4294967296)
+    × (endReader (readerBehind feed freshReader served) .heard ≡ Nothing)
+
+abbrev pub TheReaderHandsBackThatList : Type 0
+TheReaderHandsBackThatList = HandsBackThatList feeds
 
 -- Every cut can be fed so: as many calls as a piece has bytes use it up.
 abbrev pub serve : List ℕ → Served
 serve piece = record { piece = piece; times = length piece }
 
 abbrev pub EveryCutCanBeUsedUp : Type 0
-EveryCutCanBeUsedUp = (pieces : List (List ℕ)) → UsedUp freshReader (map serve pieces)
+EveryCutCanBeUsedUp = (pieces : List (List ℕ)) → AllUsedUp feeds freshReader (map serve pieces)
 
 -- The public function that uses a piece up is such a feeding, for pieces of at most 32 bytes: it hears and leaves what those calls do.
 abbrev pub AsByCalls : List ℕ → Reader → Type 0

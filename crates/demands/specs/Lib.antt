@@ -4,5 +4,6 @@ pub mod Rules
 pub mod Demand1
 pub mod Demand2
 pub mod Demand3
-pub mod Ascii
+pub mod Programs
+pub mod Wrong
 pub mod Boundary

@@ -1,0 +1,25 @@
+-- The programs that the demands are about, each by the definition that its promise gives (docs/PROMISES.md). A wrong program put in
+-- here is refused by the theorem of the demand that shuts it out.
+use mathlib.Core.Bool.{Bool}
+use mathlib.Core.List.{List}
+use Prim.Native.Nat.{ℕ}
+use Rattle.refusals.specs.Refusals.{Outcome}
+use Rattle.record.specs.declared.Record.{Record}
+use Rattle.telegram.specs.declared.write.Choice.{Choice}
+use Rattle.telegram.specs.Reading.{readOf}
+use Rattle.telegram.specs.Writing.{written}
+use Rattle.line.specs.declared.Reader.{Reader}
+use Rattle.line.specs.declared.Fed.{Fed}
+use Rattle.line.specs.Line.{feedReader}
+
+-- one telegram read, with or without control characters
+abbrev pub reads : Bool → List ℕ → Outcome Record
+reads = readOf
+
+-- one telegram written, with a setting or none, into a buffer of so many bytes
+abbrev pub writes : Choice → Record → ℕ → Outcome (List ℕ)
+writes = written
+
+-- a piece fed to a reader
+abbrev pub feeds : Reader → List ℕ → Fed
+feeds = feedReader
