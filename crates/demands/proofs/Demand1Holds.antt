@@ -36,7 +36,7 @@ use Rattle.demands.proofs.Refusing.{else-nothing, by-lowest, unless-by,
 use Rattle.demands.proofs.RulesHold.{record-rules, next-second-rules, reading-rules, writing-rules, utc-rules, step-rules}
 
 -- one telegram read
-abbrev pub toEight : List ℕ
+abbrev toEight : List ℕ
 toEight = 1 ∷ 2 ∷ 3 ∷ 4 ∷ 5 ∷ 6 ∷ 7 ∷ 8 ∷ []
 
 pub demand-1-reading : ReadingRefuses

@@ -1,26 +1,33 @@
 -- Demand 1 holds of the line. Assumes nothing.
-use mathlib.Core.Path.{_≡_, refl, ap}
-use mathlib.Core.Bool.{Bool, true, false, cond, _||_}
-use mathlib.Core.List.{List, [], _∷_, _++_}
+use mathlib.Core.Path.{_≡_, refl, ap, _∙_, subst⁻¹}
+use mathlib.Core.Bool.{Bool, true, false, cond, not, _||_}
+use mathlib.Core.List.{List, [], _∷_, _++_, map}
 use Prim.Native.Nat.{ℕ, zero, suc, _+_, _-_}
 use native.Mathlib.Omega.{arith}
 use lib.Dec.{leb, eqb}
 use lib.ListN.{length, drop, replicate, length-append, length-replicate}
-use Rattle.refusals.specs.Refusals.{Outcome, done, refused}
+use borrow.Author.Tests.{eqb-true}
+use Rattle.refusals.specs.Refusals.{_when_, _else_, Outcome, done, refused, unless}
+use Rattle.refusals.proofs.Laws.{both}
+use Rattle.places.specs.Places.{fixedHolds, decimalHolds, codeHolds, every}
 use Rattle.record.specs.declared.Record.{Record}
-use Rattle.telegram.specs.Reading.{readOf}
+use Rattle.record.specs.declared.Record.the-variants.{Dated, TimeOnly}
+use Rattle.layouts.specs.declared.Layout.{Layout}
+use Rattle.layouts.specs.Layouts.{rowOf, layoutOf}
+use Rattle.telegram.specs.Reading.{bodyOf, carried, readOf}
+use Rattle.telegram.proofs.Frames.{frame-is-framed}
 use Rattle.line.specs.declared.Reader.{Reader}
 use Rattle.line.specs.declared.Fed.{Fed}
-use Rattle.line.specs.Line.{Line, Told, nothing, event, Feeding, toldBy, toldByEnd, step, startOf, stopOr, feedOf, lineOf, readerOf, heardFor, fedFor, wellFormed, feedReader, endReader}
+use Rattle.line.specs.Line.{Line, Told, nothing, event, Feeding, toldBy, toldByEnd, step, startOf, allPlain, isStarted, stopOr, feedOf, lineOf, readerOf, heardFor, fedFor, wellFormed, feedReader, endReader}
 use Rattle.line.specs.Pieces.{Passing, passOn, passing}
-use Rattle.line.proofs.ReaderLaws.{feed-refused, end-refused}
-use Rattle.line.proofs.StaysGood.{Good, good-line, good-feed, reader-of-good}
-use Rattle.demands.specs.Numbers.{among, _doneOr_, _silentOr_, EachSilentOr}
-use Rattle.demands.specs.Demand1.{FeedingRefuses, UsingUpRefuses, TheEndRefuses, ARefusedStateComesBackUnchanged}
-use Rattle.demands.proofs.Demand1Holds.{toEight, demand-1-reading}
-
-abbrev onTheLine : List ℕ
-onTheLine = 1 ∷ 2 ∷ 3 ∷ 4 ∷ 5 ∷ 6 ∷ 7 ∷ 8 ∷ 9 ∷ 10 ∷ []
+use Rattle.line.proofs.ReaderLaws.{well, feed-refused, end-refused}
+use Rattle.line.proofs.StaysGood.{Good, started-stays, good-line, good-feed, reader-of-good}
+use Rattle.demands.specs.Numbers.{Rule, _givenWhen_, among, _doneOr_, _silentOr_, EachSilentOr}
+use Rattle.demands.specs.Lengths.{sevenLayouts, lengthOf}
+use Rattle.demands.specs.Rules.{recordRules, rulesIn}
+use Rattle.demands.specs.Demand1.{onTheLine, FeedingRefuses, UsingUpRefuses, TheEndRefuses, ARefusedStateComesBackUnchanged}
+use Rattle.demands.proofs.Refusing.{firstOf, tested, refuses}
+use Rattle.demands.proofs.RulesHold.{reading-rules}
 
 -- what is told to a line is an event with one of the numbers, or nothing
 abbrev Tells : List ℕ → Told → Type 0
@@ -41,27 +48,71 @@ among-more (first ∷ others) more n e = go (eqb n first) e (among-more others m
     go true e later = refl
     go false e later = later e
 
-byte-tells : (held : List ℕ) (byte : ℕ) → Tells onTheLine (toldBy held byte)
-byte-tells [] byte = tt
-byte-tells (first ∷ held) byte = go (eqb byte 3) (eqb byte 2) (leb 24 (length (first ∷ held)))
+-- STX and ETX stand, so that 2 is not among what a telegram of the line is refused with
+abbrev framedRules : List ℕ → Outcome Layout → List Rule
+framedRules bytes (done layout) =
+    3 givenWhen not (every fixedHolds (rowOf layout) (bodyOf true bytes))
+    ∷ 4 givenWhen not (every decimalHolds (rowOf layout) (bodyOf true bytes))
+    ∷ 5 givenWhen not (every codeHolds (rowOf layout) (bodyOf true bytes))
+    ∷ recordRules (carried layout (bodyOf true bytes))
+framedRules bytes (refused n) = []
+
+abbrev inFrame : List ℕ
+inFrame = 1 ∷ 3 ∷ 4 ∷ 5 ∷ 6 ∷ 7 ∷ 8 ∷ []
+
+judged : (body : List ℕ) → readOf true (2 ∷ body ++ 3 ∷ []) doneOr inFrame
+judged body =
+    refuses inFrame (readOf true bytes) (1 givenWhen wrong ∷ framedRules bytes o)
+    (reading-rules true bytes ∙ ap (λ n. unless n tt) (ap (λ later. 1 when wrong else later) (without-2 o)))
+    (go o)
+    .1
   where
-    judged-so : (o : Outcome Record) → o doneOr toEight → o doneOr onTheLine
+    bytes : List ℕ
+    bytes = 2 ∷ body ++ 3 ∷ []
+
+    o : Outcome Layout
+    o = layoutOf (bodyOf true bytes)
+
+    wrong : Bool
+    wrong = not (among (map (lengthOf true) sevenLayouts) (length bytes))
+
+    without-2 : (o : Outcome Layout) → firstOf (rulesIn true bytes o) ≡ firstOf (framedRules bytes o)
+    without-2 (done layout) = ap (λ t. 2 when not t else firstOf (framedRules bytes (done layout))) (frame-is-framed body)
+    without-2 (refused n) = refl
+
+    with-record : (rec : Record) → tested inFrame (1 givenWhen true ∷ 3 givenWhen true ∷ 4 givenWhen true ∷ 5 givenWhen true ∷ recordRules rec) ≡ true
+    with-record (Dated layout status weekday date time) = refl
+    with-record (TimeOnly layout time) = refl
+
+    go : (o : Outcome Layout) → tested inFrame (1 givenWhen true ∷ framedRules bytes o) ≡ true
+    go (done layout) = with-record (carried layout (bodyOf true bytes))
+    go (refused n) = refl
+
+byte-tells : (held : List ℕ) (byte : ℕ) → isStarted held ≡ true → Tells onTheLine (toldBy held byte)
+byte-tells [] byte started = tt
+byte-tells (first ∷ held) byte started = go (eqb byte 3) (eqb byte 2) (leb 24 (length (first ∷ held)))
+  where
+    judged-so : (outcome : Outcome Record) → outcome doneOr inFrame → outcome doneOr onTheLine
     judged-so (done rec) e = tt
-    judged-so (refused n) e = among-more toEight (9 ∷ 10 ∷ []) n e
+    judged-so (refused n) e = among-more inFrame (9 ∷ 10 ∷ []) n e
+
+    whole : readOf true ((first ∷ held) ++ 3 ∷ []) doneOr inFrame
+    whole = subst⁻¹ (λ byte. readOf true (byte ∷ held ++ 3 ∷ []) doneOr inFrame) (eqb-true first 2 (both (eqb first 2) (allPlain held) started .0)) (judged held)
 
     go : (etx stx full : Bool)
         → Tells onTheLine
         (cond etx (event (readOf true ((first ∷ held) ++ 3 ∷ [])) (length (first ∷ held) + 1))
         (cond stx (event (refused 9) (length (first ∷ held))) (cond full (event (refused 10) 25) nothing)))
-    go true stx full = judged-so (readOf true ((first ∷ held) ++ 3 ∷ [])) (demand-1-reading true ((first ∷ held) ++ 3 ∷ []) .1)
+    go true stx full = judged-so (readOf true ((first ∷ held) ++ 3 ∷ [])) whole
     go false true full = refl
     go false false true = refl
     go false false false = tt
 
-piece-tells : (line : Line) (piece : List ℕ) → Tells onTheLine (feedOf line piece .told)
-piece-tells line [] = tt
-piece-tells line (byte ∷ piece) =
-    go (toldBy (line .held) byte) (byte-tells (line .held) byte) (startOf line) (step line byte) (feedOf (step line byte) piece) (piece-tells (step line byte) piece)
+piece-tells : (line : Line) (piece : List ℕ) → isStarted (line .held) ≡ true → Tells onTheLine (feedOf line piece .told)
+piece-tells line [] started = tt
+piece-tells line (byte ∷ piece) started =
+    go (toldBy (line .held) byte) (byte-tells (line .held) byte started) (startOf line) (step line byte) (feedOf (step line byte) piece)
+    (piece-tells (step line byte) piece (started-stays (line .held) byte started))
   where
     go : (told : Told) → Tells onTheLine told → (start : ℕ) (next : Line) (later : Feeding) → Tells onTheLine (later .told)
         → Tells onTheLine (stopOr told start next later .told)
@@ -70,8 +121,8 @@ piece-tells line (byte ∷ piece) =
 
 pub demand-1-feeding : FeedingRefuses
 unfolding feedReader
-demand-1-feeding reader piece well =
-    rw well (heard onTheLine (feedOf (lineOf reader) piece .told) (feedOf (lineOf reader) piece .at) (piece-tells (lineOf reader) piece))
+demand-1-feeding reader piece good =
+    rw good (heard onTheLine (feedOf (lineOf reader) piece .told) (feedOf (lineOf reader) piece .at) (piece-tells (lineOf reader) piece (well reader good .started)))
 
 pub demand-1-end : TheEndRefuses
 unfolding endReader
@@ -111,7 +162,7 @@ passes (suc room) reader piece size well =
     let feeding = feedOf (lineOf reader) piece in
     let next = good-feed (lineOf reader) piece (good-line reader size well) in
     rw well
-    (passes-on (feeding .told) (feeding .at) (fedFor feeding) (passing room (readerOf (feeding .line)) (drop (feeding .taken) piece)) (piece-tells (lineOf reader) piece)
+    (passes-on (feeding .told) (feeding .at) (fedFor feeding) (passing room (readerOf (feeding .line)) (drop (feeding .taken) piece)) (piece-tells (lineOf reader) piece (good-line reader size well .started))
     (passes room (readerOf (feeding .line)) (drop (feeding .taken) piece) (held-size (feeding .line) next) (reader-of-good (feeding .line) next)))
 
 pub demand-1-using-up : UsingUpRefuses

@@ -81,18 +81,22 @@ TheStepRefuses =
 abbrev pub AsDeclared : Reader → Type 0
 AsDeclared reader = (length (reader .held) ≡ 24) × (reader .fed < 4294967296) × (reader .stray < 4294967296)
 
--- a piece fed to the line, in a well-formed state: nothing, a record, or one of 1 to 10
+-- what a line gives: 1 to 10 but for 2, as STX and ETX always stand there
+abbrev pub onTheLine : List ℕ
+onTheLine = 1 ∷ 3 ∷ 4 ∷ 5 ∷ 6 ∷ 7 ∷ 8 ∷ 9 ∷ 10 ∷ []
+
+-- a piece fed to the line, in a well-formed state: nothing, a record, or one of those
 abbrev pub FeedingRefuses : Type 0
 FeedingRefuses =
     (reader : Reader) (piece : List ℕ) → wellFormed reader ≡ true
-    → feedReader reader piece .heard silentOr 1 ∷ 2 ∷ 3 ∷ 4 ∷ 5 ∷ 6 ∷ 7 ∷ 8 ∷ 9 ∷ 10 ∷ []
+    → feedReader reader piece .heard silentOr onTheLine
 
 -- a piece used up, with room for any number of events: the same for each event, and no call is refused
 abbrev pub UsingUpRefuses : Type 0
 UsingUpRefuses =
     (reader : Reader) (piece : List ℕ) (room : ℕ) → AsDeclared reader → wellFormed reader ≡ true
     → (passing room reader piece .refusal ≡ 0)
-    × EachSilentOr (passing room reader piece .events) (1 ∷ 2 ∷ 3 ∷ 4 ∷ 5 ∷ 6 ∷ 7 ∷ 8 ∷ 9 ∷ 10 ∷ [])
+    × EachSilentOr (passing room reader piece .events) (onTheLine)
 
 -- the end of the line: nothing, or 11
 abbrev pub TheEndRefuses : Type 0

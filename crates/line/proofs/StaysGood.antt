@@ -38,7 +38,7 @@ goes-on first held byte false false false e s h =
     let plain : isPlain byte ≡ true = simp (e, s) in
     rw (parts .0, plain-behind held byte (parts .1) plain)
 
-started-stays : (held : List ℕ) (byte : ℕ) → isStarted held ≡ true → isStarted (heldAfter held byte) ≡ true
+pub started-stays : (held : List ℕ) (byte : ℕ) → isStarted held ≡ true → isStarted (heldAfter held byte) ≡ true
 started-stays [] byte h = begins (eqb byte 2)
 started-stays (first ∷ held) byte h = goes-on first held byte (eqb byte 3) (eqb byte 2) (leb 24 (length (first ∷ held))) refl refl h
 
