@@ -14,6 +14,7 @@ use Rattle.calendar.specs.TimeOfDay.{timeInRange, secondOfDay, nextSecond}
 use Rattle.calendar.specs.declared.date.Date.{Date}
 use Rattle.calendar.specs.declared.time.Time.{Time}
 use Rattle.record.specs.declared.Record.{Record}
+use Rattle.record.specs.declared.RecordAnswer.{RecordAnswer}
 use Rattle.record.specs.Rule.{refusalOf}
 use Rattle.record.specs.Next.{nextSecondOf}
 use Rattle.record.specs.Utc.{utcSeconds}
@@ -30,8 +31,9 @@ use Rattle.clock.specs.Stepping.{stepOf}
 use Rattle.clock.specs.Answers.{stepAnswer}
 use Rattle.board.specs.declared.of_6036.Parameter.{Parameter}
 use Rattle.board.specs.Of6036.{offered, byteFor}
+use Rattle.listing.specs.Listing.{rowOf, laid}
 use Rattle.demands.specs.Numbers.{_givenWhen_, lowest, _refusedBy_, _doneOr_, _noneOr_, _silentOr_, EachSilentOr}
-use Rattle.demands.specs.Rules.{dateRules, recordRules, readingRules, nextSecondRules, writingRules, utcRules, stepRules}
+use Rattle.demands.specs.Rules.{dateRules, recordRules, readingRules, nextSecondRules, writingRules, utcRules, stepRules, rowRules}
 
 -- one telegram read: 1 to 8
 abbrev pub ReadingRefuses : Type 0
@@ -106,6 +108,13 @@ TheEndRefuses = (reader : Reader) → wellFormed reader ≡ true → endReader r
 abbrev pub TheParameterByteRefuses : Type 0
 TheParameterByteRefuses = (setting : Parameter) → byteFor setting refusedBy 16 givenWhen not (offered setting) ∷ []
 
+-- a row of the listing, into a buffer of any length: 5 to 8, 13
+abbrev pub ARowRefuses : Type 0
+ARowRefuses =
+    (start : ℕ) (told : RecordAnswer) (buffer : List ℕ)
+    → (laid (rowOf start told) buffer .0 refusedBy rowRules start told (length buffer))
+    × (laid (rowOf start told) buffer .0 doneOr 5 ∷ 6 ∷ 7 ∷ 8 ∷ 13 ∷ [])
+
 -- the calendar: a date's day number 6, 7; the date of a day number 12; the day after 6, 7, 12; the length of a month 6; the second of
 -- the day 6; the next second of the day 6
 abbrev pub TheCalendarRefuses : Type 0
@@ -129,6 +138,12 @@ abbrev pub ARefusedOneMoreChangesNoByte : Type 0
 ARefusedOneMoreChangesNoByte =
     (choice : Choice) (several : Several) (rec : Record) (buffer : List ℕ) → (severalAfter choice several rec buffer .refusal ≡ 0 → ⊥)
     → bufferAfter choice several rec buffer ≡ buffer
+
+-- nor does a refused row of the listing
+abbrev pub ARefusedRowChangesNoByte : Type 0
+ARefusedRowChangesNoByte =
+    (start : ℕ) (told : RecordAnswer) (buffer : List ℕ) (n : ℕ) → laid (rowOf start told) buffer .0 ≡ refused n
+    → laid (rowOf start told) buffer .1 ≡ buffer
 
 -- "a refused state .. comes back unchanged": with 15, and "takes no byte, gives no event and nothing else"
 abbrev pub ARefusedStateComesBackUnchanged : Type 0

@@ -11,6 +11,8 @@ use Rattle.calendar.specs.TimeOfDay.{timeInRange, secondsOf}
 use Rattle.calendar.specs.declared.date.Date.{Date}
 use Rattle.record.specs.declared.Record.{Record}
 use Rattle.record.specs.declared.Record.the-variants.{Dated, TimeOnly}
+use Rattle.record.specs.declared.RecordAnswer.{RecordAnswer}
+use Rattle.record.specs.declared.RecordAnswer.the-variants as answer
 use Rattle.record.specs.Rule.{statusAllowed, weekdayAllowed, weekdayAgrees}
 use Rattle.record.specs.Next.{isLastOfCalendar}
 use Rattle.record.specs.Utc.{seasonShift}
@@ -20,6 +22,7 @@ use Rattle.telegram.specs.declared.write.Choice.{Choice}
 use Rattle.telegram.specs.declared.write.Choice.the-variants.{Named, Unnamed}
 use Rattle.telegram.specs.Reading.{bodyOf, framed, carried}
 use Rattle.clock.specs.Stepping.{carriesDate}
+use Rattle.listing.specs.Listing.{recordRow, refusedRow}
 use Rattle.demands.specs.Lengths.{sevenLayouts, lengthOf}
 use Rattle.demands.specs.Numbers.{Rule, _givenWhen_, among}
 
@@ -80,3 +83,8 @@ utcRules rec = recordRules rec ++ 12 givenWhen isBeforeUtc rec ∷ 14 givenWhen 
 -- a step of the station clock: the next second's, and "a time-only record gives 14 here"
 abbrev pub stepRules : Record → List Rule
 stepRules rec = recordRules rec ++ 12 givenWhen isLastOfCalendar rec ∷ 14 givenWhen not (carriesDate rec) ∷ []
+
+-- a row of the listing: a record's own, and 13 "the lent buffer is shorter than what is to be written"
+abbrev pub rowRules : ℕ → RecordAnswer → ℕ → List Rule
+rowRules start (answer.Good rec) room = recordRules rec ++ 13 givenWhen ltb room (length (recordRow start rec)) ∷ []
+rowRules start (answer.Refused number) room = 13 givenWhen ltb room (length (refusedRow start number)) ∷ []

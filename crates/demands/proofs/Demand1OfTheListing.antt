@@ -1,0 +1,71 @@
+-- Demand 1 holds of the rows of the listing. Assumes nothing.
+use mathlib.Core.Path.{_≡_, refl, ap, sym, _∙_}
+use mathlib.Core.Bool.{Bool, true, false, cond}
+use mathlib.Core.List.{List, [], _∷_, _++_}
+use Prim.Native.Nat.{ℕ}
+use native.Mathlib.Omega.{arith}
+use lib.Dec.{ltb}
+use lib.ListN.{length, drop}
+use Rattle.refusals.specs.Refusals.{_when_, Outcome, done, refused, unless, after}
+use Rattle.record.specs.declared.Record.{Record}
+use Rattle.record.specs.declared.Record.the-variants.{Dated, TimeOnly}
+use Rattle.record.specs.declared.RecordAnswer.{RecordAnswer}
+use Rattle.record.specs.declared.RecordAnswer.the-variants as answer
+use Rattle.record.specs.Rule.{refusalOf}
+use Rattle.listing.specs.Listing.{recordRow, refusedRow, rowOf, laid}
+use Rattle.demands.specs.Numbers.{Rule, _givenWhen_}
+use Rattle.demands.specs.Rules.{recordRules, rowRules}
+use Rattle.demands.specs.Demand1.{ARowRefuses, ARefusedRowChangesNoByte}
+use Rattle.demands.proofs.Refusing.{else-nothing, unless-by, then-by, _byFirst_, tested, refuses}
+use Rattle.demands.proofs.RulesHold.{record-rules}
+
+-- a row is laid where there is room for it
+abbrev sized : List ℕ → List ℕ → Outcome ℕ
+sized buffer row = unless (13 when ltb (length buffer) (length row)) (length row)
+
+fits-or-not : (row buffer : List ℕ) (short : Bool)
+    → cond {A = Outcome ℕ × List ℕ} short (refused 13, buffer) (done (length row), row ++ drop (length row) buffer) .0 ≡ unless (13 when short) (length row)
+unfolding unless
+fits-or-not row buffer true = refl
+fits-or-not row buffer false = refl
+
+answer-so : (row : Outcome (List ℕ)) (buffer : List ℕ) → laid row buffer .0 ≡ after row (sized buffer)
+unfolding laid
+answer-so (done row) buffer = fits-or-not row buffer (ltb (length buffer) (length row))
+answer-so (refused n) buffer = refl
+
+room-rule : (row buffer : List ℕ) → sized buffer row byFirst 13 givenWhen ltb (length buffer) (length row) ∷ []
+room-rule row buffer =
+    let short = 13 when ltb (length buffer) (length row) in
+    unless-by short (length row) (13 givenWhen ltb (length buffer) (length row) ∷ []) (sym (else-nothing short))
+
+row-rules : (start : ℕ) (told : RecordAnswer) (buffer : List ℕ) → laid (rowOf start told) buffer .0 byFirst rowRules start told (length buffer)
+row-rules start (answer.Good rec) buffer =
+    ap (λ o. after o (λ v. done tt)) (answer-so (rowOf start (answer.Good rec)) buffer)
+    ∙ then-by (refusalOf rec) (recordRow start rec) (sized buffer) (recordRules rec) _ (record-rules rec) (room-rule (recordRow start rec) buffer)
+row-rules start (answer.Refused number) buffer =
+    ap (λ o. after o (λ v. done tt)) (answer-so (done (refusedRow start number)) buffer) ∙ room-rule (refusedRow start number) buffer
+
+row-tested : (start : ℕ) (told : RecordAnswer) (room : ℕ) → tested (5 ∷ 6 ∷ 7 ∷ 8 ∷ 13 ∷ []) (rowRules start told room) ≡ true
+row-tested start (answer.Good (Dated layout status weekday date time)) room = refl
+row-tested start (answer.Good (TimeOnly layout time)) room = refl
+row-tested start (answer.Refused number) room = refl
+
+pub demand-1-row : ARowRefuses
+demand-1-row start told buffer =
+    refuses (5 ∷ 6 ∷ 7 ∷ 8 ∷ 13 ∷ []) (laid (rowOf start told) buffer .0) (rowRules start told (length buffer)) (row-rules start told buffer)
+    (row-tested start told (length buffer))
+
+pub demand-1-no-byte-of-a-row : ARefusedRowChangesNoByte
+unfolding laid
+demand-1-no-byte-of-a-row start told buffer n = go (rowOf start told)
+  where
+    laid-or-not : (row : List ℕ) (short : Bool)
+        → cond {A = Outcome ℕ × List ℕ} short (refused 13, buffer) (done (length row), row ++ drop (length row) buffer) .0 ≡ refused n
+        → cond {A = Outcome ℕ × List ℕ} short (refused 13, buffer) (done (length row), row ++ drop (length row) buffer) .1 ≡ buffer
+    laid-or-not row true e = refl
+    laid-or-not row false e = let z : _≡_ {A = ℕ} 0 1 = cc in absurd (omega arith)
+
+    go : (row : Outcome (List ℕ)) → laid row buffer .0 ≡ refused n → laid row buffer .1 ≡ buffer
+    go (done row) e = laid-or-not row (ltb (length buffer) (length row)) e
+    go (refused k) e = refl
