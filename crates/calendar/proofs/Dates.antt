@@ -1,15 +1,14 @@
 -- Laws of good dates: their day numbers, and the day after. Assumes nothing.
-use mathlib.Core.Path.{_≡_, refl, ap, ap₂, sym, _∙_}
+use mathlib.Core.Path.{_≡_, refl, ap, ap₂, _∙_}
 use mathlib.Core.Bool.{Bool, true, false, cond, not, _&&_, and-false}
-use Prim.Native.Nat.{ℕ, zero, suc, _+_, _-_, _*_, _/_, _%_, _≤_, _<_}
-use native.Mathlib.Numerals.{add-one}
+use Prim.Native.Nat.{ℕ, suc, _+_, _-_, _*_, _≤_, _<_}
 use native.Mathlib.Omega.{arith}
-use lib.Dec.{leb, ltb, eqb}
-use borrow.Author.Tests.{leb-true, le-leb, lt-ltb, le-ltb, ltb-true, ltb-false, eq-eqb, ne-eqb, eqb-true, not-false}
+use lib.Dec.{ltb, eqb}
+use borrow.Author.Tests.{leb-true, le-leb, ltb-true, ltb-false, eq-eqb, ne-eqb, eqb-true, not-false}
 use Rattle.refusals.specs.Refusals.{_when_, _else_}
 use Rattle.refusals.proofs.Laws.{both, when-none, else-none}
 use Rattle.calendar.specs.Ranges.{inside}
-use Rattle.calendar.specs.Calendar.{isLeap, monthLength, monthInRange, dateInRange, dayExists, dateRefusal, monthIndex, yearAt, monthAt, monthStart, dayOf, monthHolding, dateAt, dayAfter, isLastDay}
+use Rattle.calendar.specs.Calendar.{monthLength, monthInRange, dateInRange, dayExists, dateRefusal, monthIndex, yearAt, monthAt, monthStart, dayOf, dateAt, dayAfter, isLastDay}
 use Rattle.calendar.specs.declared.date.Date.{Date}
 use Rattle.calendar.proofs.Months.{month-28-to-31, start-next, start-order, start-end, holding, Held, held-is-holding}
 

@@ -1,12 +1,11 @@
 -- The laws of the calendar that document 01 implies, over the definitions that the contracts cite. Assumes nothing.
-use mathlib.Core.Path.{_≡_, refl, ap, sym, _∙_}
-use mathlib.Core.Bool.{Bool, true, false}
+use mathlib.Core.Path.{_≡_, ap, sym, _∙_}
 use Prim.Native.Nat.{ℕ, _+_, _%_, _≤_, _<_}
 use native.Mathlib.Omega.{arith}
 use lib.Dec.{leb}
 use borrow.Author.Tests.{lt-leb, leb-false}
 use Rattle.refusals.proofs.Laws.{was-done, does, when-none, else-none}
-use Rattle.refusals.specs.Refusals.{_when_, _else_, Outcome, done, refused, unless}
+use Rattle.refusals.specs.Refusals.{_when_, _else_, done}
 use Rattle.calendar.specs.Calendar.{dateRefusal, dayOf, dayNumber, dateAt, dateOf, weekdayOf, isLastDay, dayAfter, nextDay}
 use Rattle.calendar.specs.TimeOfDay.{timeRefusal, secondsOf, secondOfDay}
 use Rattle.calendar.specs.declared.date.Date.{Date}

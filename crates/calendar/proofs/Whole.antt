@@ -1,18 +1,14 @@
 -- The promises of the calendar leave nothing open: what an answer means determines the answer. Assumes nothing.
 use mathlib.Core.Path.{_≡_, refl}
-use mathlib.Core.Bool.{Bool, true, false, cond}
-use Prim.Native.Nat.{ℕ}
-use Rattle.refusals.specs.Refusals.{Outcome}
+use mathlib.Core.Bool.{cond}
 use Rattle.refusals.proofs.Laws.{back, told-apart}
 use Rattle.calendar.specs.Answers.{daysAnswer, dayAnswer, dateAnswer, secondAnswer, nextSecondAnswer}
-use Rattle.calendar.specs.declared.date.Date.{Date}
 use Rattle.calendar.specs.declared.date.DaysAnswer.{DaysAnswer}
 use Rattle.calendar.specs.declared.date.DaysAnswer.the-variants as days
 use Rattle.calendar.specs.declared.date.DayAnswer.{DayAnswer}
 use Rattle.calendar.specs.declared.date.DayAnswer.the-variants as day
 use Rattle.calendar.specs.declared.date.DateAnswer.{DateAnswer}
 use Rattle.calendar.specs.declared.date.DateAnswer.the-variants as date
-use Rattle.calendar.specs.declared.time.Time.{Time}
 use Rattle.calendar.specs.declared.time.SecondAnswer.{SecondAnswer}
 use Rattle.calendar.specs.declared.time.SecondAnswer.the-variants as second
 use Rattle.calendar.specs.declared.time.NextSecondAnswer.{NextSecondAnswer}

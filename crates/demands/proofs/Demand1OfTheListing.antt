@@ -7,13 +7,12 @@ use native.Mathlib.Omega.{arith}
 use lib.Dec.{ltb}
 use lib.ListN.{length, drop}
 use Rattle.refusals.specs.Refusals.{_when_, Outcome, done, refused, unless, after}
-use Rattle.record.specs.declared.Record.{Record}
 use Rattle.record.specs.declared.Record.the-variants.{Dated, TimeOnly}
 use Rattle.record.specs.declared.RecordAnswer.{RecordAnswer}
 use Rattle.record.specs.declared.RecordAnswer.the-variants as answer
 use Rattle.record.specs.Rule.{refusalOf}
 use Rattle.listing.specs.Listing.{recordRow, refusedRow, rowOf, laid}
-use Rattle.demands.specs.Numbers.{Rule, _givenWhen_}
+use Rattle.demands.specs.Numbers.{_givenWhen_}
 use Rattle.demands.specs.Rules.{recordRules, rowRules}
 use Rattle.demands.specs.Demand1.{ARowRefuses, ARefusedRowChangesNoByte}
 use Rattle.demands.proofs.Refusing.{else-nothing, unless-by, then-by, _byFirst_, tested, refuses}

@@ -7,10 +7,7 @@ use native.Mathlib.Omega.{arith}
 use lib.ListN.{length}
 use borrow.Author.Tests.{eq-eqb}
 use Rattle.record.specs.Rule.{refusalOf}
-use Rattle.line.specs.declared.Reader.{Reader}
 use Rattle.line.specs.Line.{freshReader, freshLine, lineOf, readerOf}
-use Rattle.line.specs.Cuts.{calls}
-use Rattle.line.specs.Pieces.{passing}
 use Rattle.line.proofs.ReaderLaws.{reader-back}
 use Rattle.line.proofs.StaysGood.{good-line}
 use Rattle.line.proofs.UsesUp.{uses-up}

@@ -2,17 +2,15 @@
 use mathlib.Core.Path.{_≡_, refl, ap, sym, _∙_}
 use mathlib.Core.Bool.{true}
 use mathlib.Core.List.{List, [], _∷_, _++_}
-use Prim.Native.Nat.{ℕ, _≤_}
+use Prim.Native.Nat.{ℕ}
 use native.Mathlib.Omega.{arith}
 use lib.ListN.{length, drop}
 use Rattle.refusals.specs.Refusals.{Outcome, done, refused, unless}
 use Rattle.places.specs.Places.{isDecimal, isCapital, codeValue, codeCharacter, render}
 use Rattle.calendar.specs.TimeOfDay.{timeInRange, timeRefusal}
-use Rattle.record.specs.declared.DatedLayout.{DatedLayout}
 use Rattle.record.specs.declared.TimeLayout.the-variants.{T6021}
 use Rattle.record.specs.declared.Record.{Record}
 use Rattle.record.specs.declared.Record.the-variants.{Dated, TimeOnly}
-use Rattle.record.specs.declared.RecordAnswer.{RecordAnswer}
 use Rattle.record.specs.declared.RecordAnswer.the-variants as answer
 use Rattle.record.specs.Rule.{refusalOf}
 use Rattle.layouts.specs.Layouts.{rowOf, layoutOf}
@@ -23,11 +21,11 @@ use Rattle.line.specs.declared.Fed.{Fed}
 use Rattle.line.specs.declared.Heard.{Heard}
 use Rattle.line.specs.declared.Heard.the-variants.{Nothing, Event, Refused}
 use Rattle.line.specs.Line.{readerOf, freshReader, wellFormed, feedReader}
-use Rattle.line.specs.Cuts.{heardThen, Served, AllUsedUp, heardOf}
+use Rattle.line.specs.Cuts.{heardThen, Served, AllUsedUp}
 use Rattle.line.specs.Demand.{Sent, bytesSent, eventsSent}
 use Rattle.demands.specs.Demand2.{WritesByTheTables, ReadsByTheTables}
 use Rattle.demands.specs.Demand3.{HandsBackThatList}
-use Rattle.demands.specs.Wrong.{refusingReader, answering, answeringLine, refusingLine, midnight, fixedReader, fixedLine, idleWriter, firstPieceLine, withStray, inventingLine}
+use Rattle.demands.specs.Wrong.{refusingReader, answering, refusingLine, midnight, fixedReader, fixedLine, idleWriter, firstPieceLine, withStray, inventingLine}
 
 -- a good telegram, fed as one piece
 abbrev early : Record

@@ -1,8 +1,8 @@
 -- A good record's digits carry that record, and digits are those of the record that they carry. Assumes nothing.
 use mathlib.Core.Path.{_≡_, refl, ap, ap₂, sym, _∙_}
-use mathlib.Core.Bool.{Bool, true, false, cond}
+use mathlib.Core.Bool.{Bool, true, false}
 use mathlib.Core.List.{List, [], _∷_, _++_}
-use Prim.Native.Nat.{ℕ, zero, suc, _+_, _*_, _/_, _%_, _≤_, _<_}
+use Prim.Native.Nat.{ℕ, zero, suc, _+_, _*_, _/_, _%_, _≤_}
 use native.Mathlib.Nat.{add-zero, zero-add, add-suc, suc-add}
 use native.Mathlib.Omega.{arith}
 use lib.ListN.{length, drop, getD, drop-of-length-le}
@@ -10,8 +10,6 @@ use lib.Seq.{drop-cons}
 use Rattle.places.specs.Places.{Place}
 use Rattle.places.proofs.Rows.{usedIn, limit}
 use Rattle.places.proofs.RoundTrip.{Held}
-use Rattle.calendar.specs.Calendar.{dateRefusal}
-use Rattle.calendar.specs.declared.date.Date.{Date}
 use Rattle.calendar.specs.declared.time.Time.{Time}
 use Rattle.calendar.proofs.Dates as dates
 use Rattle.calendar.proofs.Months.{month-28-to-31}
@@ -20,15 +18,14 @@ use Rattle.record.specs.declared.DatedLayout.{DatedLayout}
 use Rattle.record.specs.declared.DatedLayout.the-variants.{L6021, L2000, L5500, L5050}
 use Rattle.record.specs.declared.TimeLayout.{TimeLayout}
 use Rattle.record.specs.declared.TimeLayout.the-variants.{T6021, T5500, T5050}
-use Rattle.record.specs.declared.Status.{Status}
 use Rattle.record.specs.declared.Record.{Record}
 use Rattle.record.specs.declared.Record.the-variants.{Dated, TimeOnly}
-use Rattle.record.specs.Rule.{weekdayAllowed, datedRefusal, refusalOf}
+use Rattle.record.specs.Rule.{weekdayAllowed, refusalOf}
 use Rattle.record.proofs.RuleLaws as rule
 use Rattle.layouts.specs.declared.Layout.{Layout}
 use Rattle.layouts.specs.declared.Layout.the-variants.{Full, Brief}
 use Rattle.layouts.specs.Layouts.{hh, mm, ss, rowOf, ownLayout}
-use Rattle.layouts.specs.Coding.{statusOut, weekdayOut, hasFullYear, yearIn, centuryOut, number, timeIn, dateIn, recordIn, digitsOut}
+use Rattle.layouts.specs.Coding.{hasFullYear, number, recordIn, digitsOut}
 use Rattle.layouts.proofs.Bits.{century-small}
 use Rattle.layouts.proofs.CodingLaws.{pair-back, tens-back, ones-back, status-small, weekday-small, status-back, weekday-back, status-code-back, weekday-code-back, year-back, year-low, century-back}
 

@@ -1,22 +1,17 @@
 -- Laws of coding: a good record's digits carry that record, and digits are those of the record they carry. Assumes nothing.
-use mathlib.Core.Path.{_≡_, refl, ap, ap₂, sym, _∙_}
-use mathlib.Core.Bool.{Bool, true, false, cond, _&&_, _||_}
-use mathlib.Core.List.{List, [], _∷_}
-use Prim.Native.Nat.{ℕ, zero, suc, _+_, _*_, _/_, _%_, _≤_, _<_}
+use mathlib.Core.Path.{_≡_, refl, ap, sym, _∙_}
+use mathlib.Core.Bool.{Bool, true, false, cond, _||_}
+use Prim.Native.Nat.{ℕ, _+_, _*_, _/_, _%_, _≤_, _<_}
 use native.Mathlib.Omega.{arith}
 use lib.Dec.{ltb, eqb}
-use lib.ListN.{length, getD}
-use borrow.Author.Tests.{lt-ltb, le-ltb, ltb-true, ltb-false, eqb-true}
+use borrow.Author.Tests.{ltb-true, ltb-false, eqb-true}
 use Rattle.refusals.proofs.Laws.{both}
 use Rattle.refusals.proofs.Tables.{below}
-use Rattle.calendar.specs.declared.date.Date.{Date}
-use Rattle.calendar.specs.declared.time.Time.{Time}
 use Rattle.record.specs.declared.DatedLayout.{DatedLayout}
-use Rattle.record.specs.declared.DatedLayout.the-variants.{L6021, L2000, L5500, L5050}
 use Rattle.record.specs.declared.Reception.the-variants.{Crystal, Radio}
 use Rattle.record.specs.declared.Status.{Status}
 use Rattle.record.specs.Rule.{crystalOrRadio, tableCanSay, tableOf6021, statusAllowed}
-use Rattle.layouts.specs.Coding.{b0, b1, b2, b3, bit, receptionAt, receptionNumber, isCrystal, statusIn6021, statusIn5500, statusOut6021, statusOut5500, statusIn, statusOut, weekdayIn, weekdayOut, turningYear, fullYear, hasFullYear, yearIn, centuryOut, number}
+use Rattle.layouts.specs.Coding.{b0, bit, receptionAt, receptionNumber, isCrystal, statusIn6021, statusIn5500, statusOut6021, statusOut5500, statusIn, statusOut, weekdayIn, weekdayOut, turningYear, fullYear, hasFullYear, centuryOut, number}
 use Rattle.layouts.proofs.Bits.{bit-small, bit-back, number-back, reception-small, reception-back, reception-number-back, crystal-back, crystal-bit-back}
 
 -- two digits and their number

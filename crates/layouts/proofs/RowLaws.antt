@@ -1,15 +1,15 @@
 -- Laws of the seven rows: each is a test that antt computes, and one law carries it to any layout. Assumes nothing.
 use mathlib.Core.Path.{_≡_, refl, ap, sym, _∙_}
-use mathlib.Core.Bool.{Bool, true, false, cond, not, _&&_, _||_}
-use mathlib.Core.List.{List, [], _∷_, _++_, map}
+use mathlib.Core.Bool.{Bool, true, false, cond, _&&_}
+use mathlib.Core.List.{List, map}
 use Prim.Native.Nat.{ℕ, _+_, _-_, _≤_, _<_}
 use native.Mathlib.Omega.{arith}
 use lib.Dec.{leb, eqb}
 use lib.ListN.{length, take, drop, getD, length-map}
 use borrow.Author.Tests.{leb-true, eqb-true}
-use Rattle.refusals.specs.Refusals.{Outcome, done, refused}
+use Rattle.refusals.specs.Refusals.{Outcome, done}
 use Rattle.places.specs.Places.{Place, fixed, place, fixedHolds, every}
-use Rattle.places.proofs.Rows.{usedIn, distinct, sound}
+use Rattle.places.proofs.Rows.{distinct, sound}
 use Rattle.places.proofs.Characters.{both}
 use Rattle.places.proofs.RoundTrip.{every-at}
 use Rattle.record.specs.declared.DatedLayout.the-variants.{L6021, L2000, L5500, L5050}

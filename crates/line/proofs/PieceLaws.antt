@@ -1,5 +1,5 @@
 -- Laws of a piece that is used up: one call more, and the end of it. Assumes nothing.
-use mathlib.Core.Path.{_≡_, refl, ap, sym, _∙_}
+use mathlib.Core.Path.{_≡_, ap, sym, _∙_}
 use mathlib.Core.Bool.{Bool, true, false, cond}
 use mathlib.Core.List.{List, [], _∷_, _++_, map, append-assoc}
 use Prim.Native.Nat.{ℕ, zero, suc, _+_, _-_, _≤_, _<_}
@@ -16,7 +16,7 @@ use Rattle.line.specs.declared.Heard.the-variants.{Nothing, Event, Refus
 use Rattle.line.specs.declared.pieces.Slot.{Slot}
 use Rattle.line.specs.declared.pieces.Passed.{Passed}
 use Rattle.line.specs.Line.{wellFormed, fedFor, feedOf, lineOf, feedReader}
-use Rattle.line.specs.Pieces.{Passing, passOn, passing, slotOf, slotsFor, passedFor}
+use Rattle.line.specs.Pieces.{Passing, passOn, passing, slotOf, passedFor}
 use Rattle.line.proofs.Wraps.{taken-fits}
 
 -- a call takes no more than there is, whatever the reader

@@ -7,7 +7,7 @@ use native.Mathlib.Numerals.{add-one}
 use native.Mathlib.Omega.{arith}
 use lib.Dec.{ltb}
 use lib.ListN.{length, take, drop, getD, length-append, length-take, length-drop, length-map, take-append-drop, drop-of-length-le}
-use lib.Seq.{take-all, drop-cons, drop-drop, getD-take, length-take-le, take-append-seam, drop-append-seam, take-at, drop-at}
+use lib.Seq.{take-all, drop-cons, drop-drop, getD-take, length-take-le, take-at, drop-at}
 use borrow.Author.Tests.{le-ltb, ltb-false}
 use borrow.Rule.Slice.PartMut.{putMid}
 use Rattle.refusals.specs.Refusals.{Outcome, done, refused}
@@ -16,8 +16,7 @@ use Rattle.line.specs.declared.Heard.the-variants.{Nothing, Refused}
 use Rattle.line.specs.declared.pieces.Slot.{Slot}
 use Rattle.line.specs.Pieces.{slotOf}
 use Rattle.listing.specs.Listing.{laid}
-use Rattle.telegram.proofs.SeveralLaws.{tail-lent, tail-back}
-use Rattle.pages.specs.declared.Page.{Page}
+use Rattle.telegram.proofs.SeveralLaws.{tail-back}
 use Rattle.pages.specs.Pages.{rowFor, heardIn, Rows, within, rowThen, rowsIn, pageFor}
 
 -- what is laid is the row, where it fits

@@ -1,14 +1,14 @@
 -- Over any row: what is rendered reads back, and what reads is what is rendered. Assumes nothing.
 use mathlib.Core.Path.{_≡_, refl, ap, ap₂, sym, _∙_}
-use mathlib.Core.Bool.{Bool, true, false, cond, not, _&&_, _||_}
-use mathlib.Core.List.{List, [], _∷_, map}
-use Prim.Native.Nat.{ℕ, zero, suc, _+_, _%_, _≤_, _<_}
+use mathlib.Core.Bool.{Bool, true, false, cond, not, _||_}
+use mathlib.Core.List.{List, [], _∷_}
+use Prim.Native.Nat.{ℕ, zero, suc, _%_, _≤_, _<_}
 use native.Mathlib.Omega.{arith}
-use lib.Dec.{leb, ltb, eqb}
+use lib.Dec.{eqb}
 use lib.ListN.{length, getD, set, replicate, length-set}
 use lib.Seq.{getD-set-same, getD-set-other, ext-getD}
-use borrow.Author.Tests.{eq-eqb, eqb-true, eqb-false, leb-true, ltb-true, lt-ltb, le-ltb, not-true, not-false}
-use Rattle.places.specs.Places.{Place, fixed, decimal, code, isDecimal, isCapital, codeValue, codeCharacter, fixedHolds, decimalHolds, codeHolds, every, store, gather, noDigits, byteAt, render}
+use borrow.Author.Tests.{eq-eqb, eqb-true, eqb-false, leb-true, ltb-true, le-ltb, not-true}
+use Rattle.places.specs.Places.{Place, fixed, decimal, code, codeValue, codeCharacter, fixedHolds, decimalHolds, codeHolds, every, store, gather, noDigits, byteAt, render}
 use Rattle.places.proofs.Characters.{both, character-fits, character-decimal, value-of-character, decimal-back, code-back, decimal-small, code-small}
 use Rattle.places.proofs.Rows.{uses, usedIn, apart, distinct, limit, soundPlace, sound}
 

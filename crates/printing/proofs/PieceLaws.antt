@@ -1,10 +1,10 @@
 -- Laws of a reader that follows a piece, turn by turn. Assumes nothing.
-use mathlib.Core.Path.{_≡_, refl, ap, sym, _∙_, subst}
-use mathlib.Core.Bool.{true, false, cond}
-use mathlib.Core.List.{List, [], _∷_, _++_}
-use Prim.Native.Nat.{ℕ, _+_, _-_, _^_, _≤_, _<_}
+use mathlib.Core.Path.{_≡_, ap, sym, _∙_}
+use mathlib.Core.Bool.{true, false}
+use mathlib.Core.List.{List, []}
+use Prim.Native.Nat.{ℕ, _+_, _-_, _^_, _<_}
 use native.Mathlib.Omega.{arith}
-use lib.ListN.{length, take, drop, take-append-drop, length-drop, drop-of-length-le}
+use lib.ListN.{length, take, drop, take-append-drop, length-drop}
 use lib.Seq.{take-all, drop-drop}
 use Rattle.line.specs.declared.Reader.{Reader}
 use Rattle.line.specs.declared.pieces.Passed.{Passed}

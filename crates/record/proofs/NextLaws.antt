@@ -1,9 +1,9 @@
 -- Laws of the next second of a record. Assumes nothing.
 use mathlib.Core.Path.{_≡_, refl, ap, sym, _∙_}
 use mathlib.Core.Bool.{Bool, true, false, cond, _&&_}
-use Prim.Native.Nat.{ℕ, zero, suc, _+_, _*_}
+use Prim.Native.Nat.{ℕ, _+_, _*_}
 use native.Mathlib.Omega.{arith}
-use Rattle.refusals.specs.Refusals.{_when_, _else_, Outcome, done, refused, unless}
+use Rattle.refusals.specs.Refusals.{_when_, _else_, done, refused, unless}
 use Rattle.refusals.proofs.Laws.{was-done, was-refused, refused-some, refuses, does, when-none, else-none}
 use Rattle.calendar.specs.Calendar.{dateRefusal, dayOf, weekdayOf, isLastDay, dayAfter, nextDay}
 use Rattle.calendar.specs.TimeOfDay.{timeRefusal, secondsOf, timeAfter, isLastSecond, nextSecond}

@@ -1,8 +1,7 @@
 -- Laws of the one rule for a record. Assumes nothing.
-use mathlib.Core.Path.{_≡_, refl, sym, _∙_}
-use mathlib.Core.Bool.{Bool, true, not, _&&_}
+use mathlib.Core.Path.{_≡_, sym, _∙_}
+use mathlib.Core.Bool.{true, not, _&&_}
 use Prim.Native.Nat.{ℕ}
-use lib.Dec.{eqb}
 use borrow.Author.Tests.{not-false, eqb-true, eq-eqb}
 use Rattle.refusals.specs.Refusals.{_when_, _else_}
 use Rattle.refusals.proofs.Laws.{both, when-none, else-none, else-assoc}

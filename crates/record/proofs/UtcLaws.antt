@@ -1,11 +1,11 @@
 -- Laws of local seconds and UTC seconds. Assumes nothing.
-use mathlib.Core.Path.{_≡_, refl, ap, sym, _∙_}
+use mathlib.Core.Path.{_≡_, ap, sym, _∙_}
 use Prim.Native.Nat.{ℕ, _+_, _*_}
 use native.Mathlib.Omega.{arith}
-use Rattle.refusals.specs.Refusals.{_else_, Outcome, done, refused, unless, after}
+use Rattle.refusals.specs.Refusals.{_else_, done, refused}
 use Rattle.refusals.proofs.Laws.{was-done, was-refused, refused-some, refuses, does, else-some}
-use Rattle.calendar.specs.Calendar.{dateRefusal, dayOf, dayNumber}
-use Rattle.calendar.specs.TimeOfDay.{timeRefusal, secondsOf, secondOfDay}
+use Rattle.calendar.specs.Calendar.{dayOf, dayNumber}
+use Rattle.calendar.specs.TimeOfDay.{secondsOf, secondOfDay}
 use Rattle.calendar.specs.declared.date.Date.{Date}
 use Rattle.calendar.specs.declared.time.Time.{Time}
 use Rattle.calendar.proofs.Times.{range-not-refused}
@@ -15,7 +15,6 @@ use Rattle.record.specs.declared.Status.{Status}
 use Rattle.record.specs.declared.Record.{Record}
 use Rattle.record.specs.declared.Record.the-variants.{Dated, TimeOnly}
 use Rattle.record.specs.declared.utc.LocalSeconds.{LocalSeconds}
-use Rattle.record.specs.declared.utc.UtcSeconds.{UtcSeconds}
 use Rattle.record.specs.Rule.{datedRefusal, refusalOf}
 use Rattle.record.specs.Utc.{localSeconds, toUtc, utcSeconds}
 use Rattle.record.proofs.RuleLaws.{good}

@@ -1,15 +1,10 @@
 // The next second of a record, date and weekday included; season and status stay as they are.
-use super::DatedLayout;
 use super::Record;
 use super::RecordAnswer;
-use super::Status;
 use super::rule::refusal;
-use calendar::date::Date;
 use calendar::date::DateAnswer;
 use calendar::time::NextSecondAnswer;
-use calendar::time::Time;
 use refusals::NONE;
-use refusals::OUTSIDE_CALENDAR;
 ghost use mathlib.Core.Path.{_≡_};
 ghost use Rattle.record.specs.Next.{nextSecondOf};
 ghost use Rattle.record.specs.Answers.{recordAnswer};

@@ -1,20 +1,17 @@
 -- Demand 2, over the definitions: what is written reads back, and what reads is what is written. Assumes nothing.
 use mathlib.Core.Path.{_≡_, refl, ap, ap₂, sym, _∙_}
-use mathlib.Core.Bool.{Bool, true, false, cond, not, _&&_}
+use mathlib.Core.Bool.{Bool, true, false, not, _&&_}
 use mathlib.Core.List.{List, [], _∷_, _++_}
-use Prim.Native.Nat.{ℕ, zero, suc, _≤_, _<_}
+use Prim.Native.Nat.{ℕ, _≤_}
 use native.Mathlib.Omega.{arith}
-use lib.ListN.{length, getD}
+use lib.ListN.{length}
 use borrow.Author.Tests.{not-false}
 use Rattle.refusals.specs.Refusals.{_when_, _else_, Outcome, done, refused, unless, after}
 use Rattle.refusals.proofs.Laws.{was-done, does, when-none, else-none}
 use Rattle.places.specs.Places.{fixedHolds, decimalHolds, codeHolds, every, gather, rowFault, noDigits, render}
-use Rattle.places.proofs.Rows.{usedIn}
-use Rattle.places.proofs.RoundTrip.{Held, fixed-rendered, decimals-rendered, codes-rendered, gather-outside, reads-back, makes-again, held-gather, held-none, no-digit}
+use Rattle.places.proofs.RoundTrip.{fixed-rendered, decimals-rendered, codes-rendered, gather-outside, reads-back, makes-again, held-gather, held-none, no-digit}
 use Rattle.record.specs.declared.Record.{Record}
 use Rattle.record.specs.Rule.{refusalOf}
-use Rattle.record.specs.Next.{nextSecondOf}
-use Rattle.record.proofs.NextLaws.{next-good}
 use Rattle.layouts.specs.declared.Layout.{Layout}
 use Rattle.layouts.specs.Layouts.{rowOf, ownLayout, layoutOf}
 use Rattle.layouts.specs.Coding.{recordIn, digitsOut}

@@ -1,11 +1,11 @@
 -- The ways in which reading ends, over the definitions. Assumes nothing.
-use mathlib.Core.Path.{_≡_, refl, ap, sym, _∙_}
+use mathlib.Core.Path.{_≡_, ap, sym, _∙_}
 use mathlib.Core.Bool.{Bool, true, false, not, _&&_}
-use mathlib.Core.List.{List, [], map}
-use Prim.Native.Nat.{ℕ, _-_, _≤_, _<_}
+use mathlib.Core.List.{List, map}
+use Prim.Native.Nat.{ℕ, _-_, _<_}
 use native.Mathlib.Omega.{arith}
-use lib.ListN.{length, take, drop, getD}
-use Rattle.refusals.specs.Refusals.{_else_, Outcome, done, refused, unless, after}
+use lib.ListN.{length, take, drop}
+use Rattle.refusals.specs.Refusals.{_else_, done, refused, unless}
 use Rattle.refusals.proofs.Laws.{refuses, refuses-first, does}
 use Rattle.places.specs.Places.{place, rowFault, foundIn}
 use Rattle.places.specs.declared.Found.{Found}

@@ -5,8 +5,8 @@ use mathlib.Core.List.{List, [], _∷_, _++_, map, append-assoc, append-nil}
 use Prim.Native.Nat.{ℕ, suc, _+_, _-_, _≤_, _<_}
 use native.Mathlib.Numerals.{add-one, add-two}
 use native.Mathlib.Omega.{arith}
-use lib.ListN.{length, take, drop, set, length-append, length-set, length-drop, drop-of-length-le}
-use lib.Seq.{take-all, drop-cons, set-at, take-length, drop-length}
+use lib.ListN.{length, take, drop, set, length-append, length-drop, drop-of-length-le}
+use lib.Seq.{take-all, drop-cons, set-at}
 use lib.Dec.{ltb}
 use borrow.Author.Tests.{lt-ltb, le-ltb, ltb-false}
 use borrow.Rule.Slice.PartMut.{putMid}
@@ -22,7 +22,7 @@ use Rattle.layouts.specs.declared.rows.Span.{Span}
 use Rattle.layouts.specs.Layouts.{rowOf, allRows, spanOf, ownLayout}
 use Rattle.layouts.specs.Coding.{digitsOut}
 use Rattle.layouts.proofs.RowLaws.{span-row, span-ends, row-length}
-use Rattle.telegram.specs.Writing.{bodyBytes, telegramOf, judgedOf, as6021, recordToWrite, controlOf, laid, written, sizeOf, laidIn}
+use Rattle.telegram.specs.Writing.{bodyBytes, telegramOf, judgedOf, as6021, recordToWrite, controlOf, laid, written}
 use Rattle.telegram.specs.declared.write.Choice.{Choice}
 use Rattle.telegram.specs.declared.write.Choice.the-variants.{Named, Unnamed}
 

@@ -4,14 +4,13 @@ use mathlib.Core.List.{List, [], _∷_, _++_}
 use Prim.Native.Nat.{ℕ, _+_, _-_, _%_, _^_}
 use lib.Dec.{ltb, eqb}
 use lib.ListN.{length, take, drop}
-use Rattle.refusals.specs.Refusals.{_when_, _else_, Outcome, done, refused, unless, after}
+use Rattle.refusals.specs.Refusals.{_when_, Outcome, done, refused, unless, after}
 use Rattle.places.specs.Places.{render}
 use Rattle.record.specs.declared.DatedLayout.the-variants.{L6021}
 use Rattle.record.specs.declared.Record.{Record}
 use Rattle.record.specs.declared.Record.the-variants.{Dated, TimeOnly}
 use Rattle.record.specs.Rule.{refusalOf}
 use Rattle.record.specs.Next.{nextSecondOf}
-use Rattle.telegram.specs.declared.write.Setting.{Setting}
 use Rattle.telegram.specs.declared.write.Choice.{Choice}
 use Rattle.telegram.specs.declared.write.Choice.the-variants.{Named, Unnamed}
 use Rattle.telegram.specs.declared.several.Several.{Several}

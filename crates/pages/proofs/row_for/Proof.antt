@@ -1,5 +1,5 @@
 -- `pages::row_for` meets its contract.
-use mathlib.Core.Path.{_≡_, refl, ap, sym, _∙_}
+use mathlib.Core.Path.{ap, _∙_}
 use Rattle.listing.specs.Listing.{laid}
 use Rattle.pages.specs.Pages.{rowFor}
 use Rattle.pages.proofs.PageLaws.{nothing-laid, refused-laid}

@@ -1,9 +1,9 @@
 -- `pages::rows` meets its contract. The loop's invariant: the rows so far, and what the slots that are left still give.
 use native.Mathlib.Omega.{arith}
 use borrow.Author.Needs.{needs}
-use mathlib.Core.Path.{_≡_, refl, ap, sym, _∙_}
-use Prim.Native.Nat.{_+_, _-_, _≤_, _<_, min}
-use lib.ListN.{length, take, drop, getD}
+use mathlib.Core.Path.{_≡_, ap}
+use Prim.Native.Nat.{_+_, _-_, _<_, min}
+use lib.ListN.{length, drop, getD}
 use Rattle.line.specs.declared.Heard.the-variants.{Nothing}
 use Rattle.line.specs.Pieces.{slotOf}
 use Rattle.listing.specs.Answers.{rowAnswer}

@@ -1,7 +1,7 @@
 -- `places::code_value` meets its contract.
 use native.Mathlib.Omega.{arith}
 use mathlib.Core.Path.{sym, _∙_}
-use Rattle.places.specs.Places.{isDecimal, isCapital, codeValue}
+use Rattle.places.specs.Places.{codeValue}
 use Rattle.places.proofs.Characters.{decimal-bounds, capital-bounds}
 use borrow.Author.Needs.{needs}
 use Rattle.places.proofs.code_value.Statement.{statement}

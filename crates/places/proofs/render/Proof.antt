@@ -2,14 +2,12 @@
 use mathlib.Core.Path.{refl, ap₂}
 use lib.ListN.{length-set}
 use borrow.Author.Tests.{ltb-true, ltb-false}
-use mathlib.Core.Path.{_≡_, sym, _∙_, ap}
-use mathlib.Core.List.{map}
+use mathlib.Core.Path.{_≡_, _∙_, ap}
 use Prim.Native.Nat.{_-_, _≤_}
 use native.Mathlib.Omega.{arith}
 use borrow.Author.Needs.{needs}
-use lib.ListN.{length, set, getD}
-use Rattle.places.specs.Places.{place, byteAt}
-use Rattle.places.proofs.Rendering.{laid, laid-none, laid-next, length-laid, laid-row, laid-out}
+use lib.ListN.{length, set}
+use Rattle.places.proofs.Rendering.{laid, laid-none, laid-next, laid-row, laid-out}
 use Rattle.places.proofs.render.Statement.{statement}
 use Rattle.places.proofs.render.Tie as tie
 

@@ -3,7 +3,7 @@ use native.Mathlib.Omega.{arith}
 use borrow.Author.Needs.{needs}
 use mathlib.Core.Path.{_≡_, ap, sym, _∙_}
 use mathlib.Core.List.{map}
-use Prim.Native.Nat.{_-_, _%_, _≤_}
+use Prim.Native.Nat.{_-_, _%_}
 use lib.ListN.{length, drop, getD, set}
 use borrow.Author.Tests.{ltb-true, ltb-false}
 use Rattle.places.specs.Places.{place, lower, foundIn}

@@ -1,5 +1,4 @@
 -- `calendar::date::date_of` meets its contract: each day of the calendar lies in a month of the table.
-use mathlib.Core.Path.{sym, _∙_}
 use native.Mathlib.Omega.{arith}
 use borrow.Author.Tests.{le-leb, lt-leb}
 use Rattle.refusals.specs.Refusals.{unless}

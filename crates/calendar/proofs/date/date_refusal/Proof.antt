@@ -1,8 +1,7 @@
 -- `calendar::date::date_refusal` meets its contract.
-use mathlib.Core.Path.{sym, ap, _∙_}
+use mathlib.Core.Path.{sym, _∙_}
 use borrow.Author.Needs.{needs}
 use borrow.Author.Tests.{not-true, not-false, le-leb, lt-leb}
-use native.Mathlib.Omega.{arith}
 use Rattle.calendar.specs.Calendar.{dateRefusal, dateInRange, dayExists}
 use Rattle.calendar.proofs.date.date_refusal.Statement.{statement}
 use Rattle.calendar.proofs.date.date_refusal.Tie as tie

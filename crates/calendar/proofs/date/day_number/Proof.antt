@@ -1,10 +1,10 @@
 -- `calendar::date::day_number` meets its contract: a good date's month stands in the table.
-use mathlib.Core.Path.{sym, ap, _∙_}
+use mathlib.Core.Path.{sym, _∙_}
 use native.Mathlib.Omega.{arith}
 use borrow.Author.Needs.{needs}
-use Rattle.refusals.specs.Refusals.{unless, done}
+use Rattle.refusals.specs.Refusals.{unless}
 use Rattle.refusals.proofs.Laws.{refuses}
-use Rattle.calendar.specs.Calendar.{dayNumber, dayOf, monthIndex, monthStart}
+use Rattle.calendar.specs.Calendar.{dayNumber, dayOf, monthIndex}
 use Rattle.calendar.proofs.Months.{table-entry, start-bound}
 use Rattle.calendar.proofs.Dates.{good, index-within}
 use Rattle.calendar.proofs.date.day_number.Statement.{statement}

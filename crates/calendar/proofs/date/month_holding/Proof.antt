@@ -1,11 +1,10 @@
 -- `calendar::date::month_holding` meets its contract. The loop's invariant: the day lies behind the start of the month at
 -- `low` and before the start of the one at `high`. The measure is how many months are in question.
 use mathlib.Core.Path.{_≡_, sym, _∙_, ap}
-use Prim.Native.Nat.{ℕ, suc, _+_, _-_, _/_, _≤_, _<_}
-use native.Mathlib.Numerals.{add-one}
+use Prim.Native.Nat.{suc, _+_, _-_, _/_, _≤_, _<_}
 use native.Mathlib.Omega.{arith}
 use borrow.Author.Needs.{needs}
-use Rattle.calendar.specs.Calendar.{monthStart, monthHolding}
+use Rattle.calendar.specs.Calendar.{monthStart}
 use Rattle.calendar.proofs.Months.{start-first, start-end, start-bound, table-entry, holding}
 use Rattle.calendar.proofs.date.month_holding.Statement.{statement}
 use Rattle.calendar.proofs.date.month_holding.Tie as tie

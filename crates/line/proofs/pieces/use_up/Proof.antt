@@ -2,7 +2,7 @@
 use native.Mathlib.Omega.{arith}
 use borrow.Author.Needs.{needs}
 use mathlib.Core.Path.{_≡_, refl, ap, sym, _∙_}
-use Prim.Native.Nat.{_+_, _-_, _≤_, _<_}
+use Prim.Native.Nat.{_-_, _≤_, _<_}
 use lib.ListN.{length, take, drop, length-drop, length-take, length-set}
 use Rattle.line.specs.Pieces.{passOn, passing, slotOf, passedFor}
 use Rattle.line.proofs.PieceLaws.{feed-fits, behind, Empty, at-first, still-empty, ends-with, goes-on, full-ends}

@@ -1,8 +1,8 @@
 -- `printing::Printer::piece` meets its contract. The loop's invariant: the rest of the piece leads to the whole piece's reader.
 use native.Mathlib.Omega.{arith}
 use borrow.Author.Needs.{needs}
-use mathlib.Core.Path.{_≡_, refl, ap, sym, _∙_}
-use Prim.Native.Nat.{_+_, _-_, _≤_, _<_}
+use mathlib.Core.Path.{_≡_, sym, _∙_}
+use Prim.Native.Nat.{_-_, _≤_}
 use lib.ListN.{length, drop, length-map, drop-of-length-le}
 use borrow.Author.Tests.{not-true, not-false}
 use Rattle.line.proofs.PieceLaws.{end-fits}

@@ -1,6 +1,6 @@
 -- `telegram::read::read` meets its contract.
 use mathlib.Core.Path.{refl, sym, ap, _∙_}
-use mathlib.Core.Bool.{true, false}
+use mathlib.Core.Bool.{false}
 use Rattle.layouts.specs.Answers.{layoutAnswer}
 use Rattle.telegram.specs.Reading.{readOf}
 use Rattle.telegram.proofs.ReadLaws.{no-layout, by-body}

@@ -1,7 +1,6 @@
 -- `telegram::read::read_framed` meets its contract.
 use mathlib.Core.Path.{sym, ap, _∙_}
 use mathlib.Core.Bool.{true, not}
-use borrow.Author.Tests.{not-true, not-false}
 use Rattle.layouts.specs.Answers.{layoutAnswer}
 use Rattle.layouts.specs.Layouts.{layoutOf}
 use Rattle.telegram.specs.Reading.{readBodyAs}

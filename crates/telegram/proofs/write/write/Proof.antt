@@ -2,7 +2,6 @@
 use mathlib.Core.Path.{refl, sym, ap, _∙_}
 use lib.ListN.{length}
 use Rattle.record.specs.Answers.{recordAnswer}
-use Rattle.telegram.specs.Writing.{written, laid, sizeOf, laidIn, controlOf}
 use Rattle.telegram.proofs.WriteLaws.{written-refused, written-laid}
 use borrow.Author.Needs.{needs}
 use Rattle.telegram.proofs.write.write.Statement.{statement}

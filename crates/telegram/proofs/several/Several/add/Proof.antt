@@ -1,14 +1,13 @@
 -- `telegram::several::Several::add` meets its contract: each way it ends is a law of the definition.
 use Rattle.telegram.proofs.SeveralLaws.{one-stands, one-stops}
-use mathlib.Core.Path.{refl, sym, ap, ap₂, _∙_}
-use mathlib.Core.List.{_++_}
+use mathlib.Core.Path.{sym, ap, _∙_}
 use Prim.Native.Nat.{_-_}
 use native.Mathlib.Omega.{arith}
 use lib.ListN.{length, take, drop}
 use Rattle.telegram.specs.Answers.{writeAnswer}
-use Rattle.telegram.specs.Writing.{written, sizeOf, laidIn, oneMore}
+use Rattle.telegram.specs.Writing.{written}
 use Rattle.telegram.proofs.WriteLaws.{written-fits}
-use Rattle.telegram.proofs.SeveralLaws.{tail-lent, tail-back, tail-length, told-done, told-refused, ended-before, goes-in, goes-into}
+use Rattle.telegram.proofs.SeveralLaws.{tail-lent, tail-length, told-done, ended-before}
 use borrow.Author.Needs.{needs}
 use Rattle.telegram.proofs.several.Several.add.Statement.{statement}
 use Rattle.telegram.proofs.several.Several.add.Tie as tie
