@@ -7,7 +7,7 @@ import pathlib
 import re
 
 ROOT = pathlib.Path(__file__).resolve().parent.parent
-FUNCTION = re.compile(r"^\s*(pub )?fn ", re.M)
+FUNCTION = re.compile(r"^\s*(pub(\(\w+\))? )?fn ", re.M)
 COMMENTS = {".rt": "//", ".antt": "--"}
 
 

@@ -1,10 +1,10 @@
 #!/usr/bin/env python3
 """Fails where a public function's promise is not whole.
 
-Each `pub fn` of a library must have an `ensures`, must have no `requires`, and must have a row in docs/PROMISES.md
+Each `pub fn` must have an `ensures`, must have no `requires`, and must have a row in docs/PROMISES.md
 that names it by its path, as `calendar::date::day_number`, and at least two must-fail edits of its crate. A row that
 names no such function or edit fails too, and so does an edit that no row names. A row on a demand names edits of the crate
-`demands`. (A program offers its functions to nobody.)
+`demands`.
 """
 import pathlib
 import re
@@ -45,13 +45,6 @@ def functions(source):
         yield f"{module_of(source)}::{inside}{found.group(2)}", number, head
 
 
-def sources():
-    """The source files of every library."""
-    for crate in sorted((ROOT / "crates").iterdir()):
-        if not (crate / "src" / "main.rt").exists():
-            yield from sorted(crate.glob("src/**/*.rt"))
-
-
 def edit_faults(page, rows):
     """Edits that a row names and that are not there, too few of them, and edits that no row names."""
     named = {("demands", label) for row in DEMAND.findall(page) for label in EDIT.findall(row)}
@@ -70,7 +63,7 @@ def edit_faults(page, rows):
 
 def main():
     faults, seen = [], set()
-    for source in sources():
+    for source in sorted((ROOT / "crates").glob("*/src/**/*.rt")):
         for path, number, head in functions(source):
             seen.add(path)
             where = f"{source.relative_to(ROOT)}:{number}: {path}"

@@ -21,7 +21,7 @@ fn parity(number: u8) -> Parity {
     }
 }
 
-pub fn reads(bytes: &[u8]) {
+pub(crate) fn reads(bytes: &[u8]) {
     let parameter = board::of_6036::read(inputs::byte(bytes, 0));
     let parity = parameter.parity;
     outputs::print_flag(parameter.utc);
@@ -42,7 +42,7 @@ fn setting(bytes: &[u8]) -> Parameter {
     }
 }
 
-pub fn writes(bytes: &[u8]) {
+pub(crate) fn writes(bytes: &[u8]) {
     match board::of_6036::write(setting(bytes)) {
         ByteAnswer::Byte(byte) => {
             outputs::print(0);

@@ -13,14 +13,14 @@ use telegram::write::Setting;
 // What a buffer holds before it is lent.
 pub const UNTOUCHED: u8 = 170;
 
-pub fn byte(bytes: &[u8], at: usize) -> u8 {
+pub(crate) fn byte(bytes: &[u8], at: usize) -> u8 {
     if at < bytes.len() {
         return bytes[at];
     }
     0
 }
 
-pub fn flag(bytes: &[u8], at: usize) -> bool {
+pub(crate) fn flag(bytes: &[u8], at: usize) -> bool {
     byte(bytes, at) != 0
 }
 
@@ -38,12 +38,12 @@ fn number_16(bytes: &[u8]) -> u16 {
 }
 
 // Four bytes, the highest first.
-pub fn number_32(bytes: &[u8]) -> u32 {
+pub(crate) fn number_32(bytes: &[u8]) -> u32 {
     joined_32(number_16(bytes), number_16(behind(bytes, 2)))
 }
 
 // The bytes behind the first so many.
-pub fn behind<'a>(bytes: &'a [u8], count: usize) -> &'a [u8] {
+pub(crate) fn behind<'a>(bytes: &'a [u8], count: usize) -> &'a [u8] {
     let length = bytes.len();
     if length < count {
         return &bytes[length..];
@@ -86,7 +86,7 @@ fn time(bytes: &[u8]) -> Time {
 }
 
 // A year of two bytes, a month, a day.
-pub fn date(bytes: &[u8]) -> Date {
+pub(crate) fn date(bytes: &[u8]) -> Date {
     Date {
         year: number_16(bytes),
         month: byte(bytes, 2),
@@ -104,7 +104,7 @@ fn status(bytes: &[u8]) -> Status {
 }
 
 // Thirteen bytes: layout (0 to 3 dated, 4 to 6 time-only), status, weekday, date, time.
-pub fn rec(bytes: &[u8]) -> Record {
+pub(crate) fn rec(bytes: &[u8]) -> Record {
     let layout = byte(bytes, 0);
     let time = time(behind(bytes, 10));
     if 4 <= layout {
@@ -120,7 +120,7 @@ pub fn rec(bytes: &[u8]) -> Record {
 }
 
 // 0 names no setting; else one less has the control characters in bit 0 and the advance in bit 1.
-pub fn choice(number: u8) -> Choice {
+pub(crate) fn choice(number: u8) -> Choice {
     if number == 0 {
         return Choice::Unnamed;
     }
@@ -140,12 +140,12 @@ fn held(bytes: &[u8]) -> [u8; 24] {
     held
 }
 
-pub fn wide(n: u8) -> usize {
+pub(crate) fn wide(n: u8) -> usize {
     n as usize
 }
 
 // 37 bytes: the places, how many are held, fed, stray, start.
-pub fn reader(bytes: &[u8]) -> Reader {
+pub(crate) fn reader(bytes: &[u8]) -> Reader {
     Reader {
         held: held(bytes),
         len: wide(byte(bytes, 24)),

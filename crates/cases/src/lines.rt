@@ -2,7 +2,7 @@
 use super::inputs;
 use super::outputs;
 
-pub fn feeds(bytes: &[u8]) {
+pub(crate) fn feeds(bytes: &[u8]) {
     let reader = inputs::reader(bytes);
     let fed = reader.feed(inputs::behind(bytes, 37));
     let heard = fed.heard;
@@ -11,7 +11,7 @@ pub fn feeds(bytes: &[u8]) {
     outputs::print_reader(fed.reader);
 }
 
-pub fn ends(bytes: &[u8]) {
+pub(crate) fn ends(bytes: &[u8]) {
     let reader = inputs::reader(bytes);
     let ended = reader.end();
     let heard = ended.heard;

@@ -11,12 +11,12 @@ use record::RecordAnswer;
 use record::Status;
 use record::TimeLayout;
 
-pub fn print(n: u64) {
+pub(crate) fn print(n: u64) {
     io::print_decimal(STDOUT_FILENO, n);
     io::write_all(STDOUT_FILENO, b" ");
 }
 
-pub fn end_line() {
+pub(crate) fn end_line() {
     io::write_all(STDOUT_FILENO, b"\n");
 }
 
@@ -54,7 +54,7 @@ fn reception_number(reception: Reception) -> u64 {
     }
 }
 
-pub fn print_flag(on: bool) {
+pub(crate) fn print_flag(on: bool) {
     print(flag(on));
 }
 
@@ -66,7 +66,7 @@ fn print_status(status: Status) {
     print_flag(status.announced);
 }
 
-pub fn print_date(date: Date) {
+pub(crate) fn print_date(date: Date) {
     print(date.year as u64);
     print(date.month as u64);
     print(date.day as u64);
@@ -79,7 +79,7 @@ fn print_time(time: Time) {
 }
 
 // A record: its layout, and its fields in the order of their declaration.
-pub fn print_record(rec: Record) {
+pub(crate) fn print_record(rec: Record) {
     match rec {
         Record::Dated(layout, status, weekday, date, time) => {
             print(layout_number(layout));
@@ -95,7 +95,7 @@ pub fn print_record(rec: Record) {
     }
 }
 
-pub fn print_answer(answer: RecordAnswer) {
+pub(crate) fn print_answer(answer: RecordAnswer) {
     match answer {
         RecordAnswer::Good(rec) => {
             print(0);
@@ -109,7 +109,7 @@ fn print_byte(byte: u8) {
     print(byte as u64);
 }
 
-pub fn print_bytes(bytes: &[u8]) {
+pub(crate) fn print_bytes(bytes: &[u8]) {
     let mut at: usize = 0;
     while at < bytes.len() {
         print_byte(bytes[at]);
@@ -118,7 +118,7 @@ pub fn print_bytes(bytes: &[u8]) {
 }
 
 // Nothing is 0; an event is 1, its position, its length and its outcome; a refused state is 2 and its number.
-pub fn print_heard(heard: Heard) {
+pub(crate) fn print_heard(heard: Heard) {
     match heard {
         Heard::Nothing => print(0),
         Heard::Event(answer, start, length) => {
@@ -134,7 +134,7 @@ pub fn print_heard(heard: Heard) {
     }
 }
 
-pub fn print_reader(reader: Reader) {
+pub(crate) fn print_reader(reader: Reader) {
     let held = reader.held;
     print_bytes(&held);
     print(reader.len as u64);

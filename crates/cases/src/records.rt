@@ -7,11 +7,11 @@ use clock::Clock;
 use clock::StepAnswer;
 use record::utc::UtcAnswer;
 
-pub fn next_second(bytes: &[u8]) {
+pub(crate) fn next_second(bytes: &[u8]) {
     outputs::print_answer(record::next::next_second(inputs::rec(bytes)));
 }
 
-pub fn utc_seconds(bytes: &[u8]) {
+pub(crate) fn utc_seconds(bytes: &[u8]) {
     match record::utc::utc_seconds(inputs::rec(bytes)) {
         UtcAnswer::Utc(seconds) => {
             outputs::print(0);
@@ -21,7 +21,7 @@ pub fn utc_seconds(bytes: &[u8]) {
     }
 }
 
-pub fn day_number(bytes: &[u8]) {
+pub(crate) fn day_number(bytes: &[u8]) {
     match calendar::date::day_number(inputs::date(bytes)) {
         DayAnswer::Day(day) => {
             outputs::print(0);
@@ -32,7 +32,7 @@ pub fn day_number(bytes: &[u8]) {
     }
 }
 
-pub fn date(bytes: &[u8]) {
+pub(crate) fn date(bytes: &[u8]) {
     match calendar::date::date_of(inputs::number_32(bytes)) {
         DateAnswer::Found(date) => {
             outputs::print(0);
@@ -43,7 +43,7 @@ pub fn date(bytes: &[u8]) {
 }
 
 // What the step answers, and the clock that is left.
-pub fn step(bytes: &[u8]) {
+pub(crate) fn step(bytes: &[u8]) {
     let stepped = clock::in_place(Clock {
         rec: inputs::rec(bytes),
     });

@@ -20,7 +20,7 @@ fn row_in(out: &mut [u8], room: usize, start: u32, answer: RecordAnswer) -> RowA
     listing::rows::row(start, answer, &mut out[0..room])
 }
 
-pub fn writes(bytes: &[u8]) {
+pub(crate) fn writes(bytes: &[u8]) {
     let start = inputs::number_32(bytes);
     let room = inputs::wide(inputs::byte(bytes, 4));
     let answer = outcome(inputs::behind(bytes, 5));

@@ -6,7 +6,7 @@ use telegram::several::Several;
 use telegram::write::Choice;
 use telegram::write::WriteAnswer;
 
-pub fn reads(bytes: &[u8], control: bool) {
+pub(crate) fn reads(bytes: &[u8], control: bool) {
     outputs::print_answer(telegram::read::read(bytes, control));
 }
 
@@ -28,7 +28,7 @@ fn print_written(answer: WriteAnswer) {
     }
 }
 
-pub fn writes(bytes: &[u8]) {
+pub(crate) fn writes(bytes: &[u8]) {
     let choice = inputs::choice(inputs::byte(bytes, 0));
     let room = inputs::wide(inputs::byte(bytes, 1));
     let rec = inputs::rec(inputs::behind(bytes, 2));
@@ -45,7 +45,7 @@ fn add_in(out: &mut [u8], room: usize, several: Several, rec: Record, choice: Ch
     several.add(rec, choice, &mut out[0..room])
 }
 
-pub fn writes_several(bytes: &[u8]) {
+pub(crate) fn writes_several(bytes: &[u8]) {
     let choice = inputs::choice(inputs::byte(bytes, 0));
     let room = inputs::wide(inputs::byte(bytes, 1));
     let mut out = [inputs::UNTOUCHED; 64];

@@ -98,7 +98,7 @@ abbrev pub UsingUpRefuses : Type 0
 UsingUpRefuses =
     (reader : Reader) (piece : List ℕ) (room : ℕ) → AsDeclared reader → wellFormed reader ≡ true
     → (passing room reader piece .refusal ≡ 0)
-    × EachSilentOr (passing room reader piece .events) (onTheLine)
+    × EachSilentOr (passing room reader piece .events) onTheLine
 
 -- the end of the line: nothing, or 11
 abbrev pub TheEndRefuses : Type 0
