@@ -12,7 +12,7 @@ use Rattle.board.specs.declared.Parity.{Parity}
 use Rattle.board.specs.declared.Parity.the-variants.{None, Even, Odd}
 use Rattle.board.specs.declared.of_6036.Parameter.{Parameter}
 use Rattle.board.specs.Switches.{switch, byteOf, withSwitch4}
-use Rattle.board.specs.Rates.{rowOf}
+use Rattle.board.specs.Rates.{rateRow}
 use Rattle.board.specs.Of6036.{dataBitsIn, parityIn, stopBitsIn, baudIn, parameterIn, thirdFor, fourthFor, switchesFor, offered, byteFor}
 use Rattle.board.proofs.SwitchLaws.{is-on, byte-fits}
 use Rattle.board.proofs.RateLaws.{rate-back}
@@ -28,7 +28,7 @@ given (refused number) n e = let z : _≡_ {A = ℕ} 0 1 = cc in absurd (omega a
 
 -- "Reading then writing sets switch 4 when switch 3 is set and changes nothing else", for each of the 256 bytes.
 pub read-then-write : (byte : ℕ) → byte < 256 → byteFor (parameterIn byte) ≡ done (withSwitch4 (switch 3 byte || switch 4 byte) byte)
-unfolding parameterIn switchesFor byteFor withSwitch4 offered rowOf unless
+unfolding parameterIn switchesFor byteFor withSwitch4 offered rateRow unless
 read-then-write byte h =
     given _ _ (below 256 (λ n. gives (byteFor (parameterIn n)) (withSwitch4 (switch 3 n || switch 4 n) n)) refl byte h)
 
@@ -57,7 +57,7 @@ comes-back parameter e =
     let data-bits-back : dataBitsIn byte ≡ parameter .«data_bits» = rw (on 1) (one-of (parameter .«data_bits») 8 7 (data-bits .0)) in
     let parity-back : parityIn byte ≡ parameter .parity = rw (on 2, on 3) (parity-of (parameter .parity)) in
     let stop-bits-back : stopBitsIn byte ≡ parameter .«stop_bits» = rw (on 4) (one-of (parameter .«stop_bits») 1 2 (stop-bits .0)) in
-    let baud-back : baudIn byte ≡ parameter .baud = rw (on 5, on 6, on 7) (rate-back (parameter .baud) (ltb-true (rowOf (parameter .baud)) 8 (stop-bits .1))) in
+    let baud-back : baudIn byte ≡ parameter .baud = rw (on 5, on 6, on 7) (rate-back (parameter .baud) (ltb-true (rateRow (parameter .baud)) 8 (stop-bits .1))) in
     λ i.
     record { utc = on 0 i; «data_bits» = data-bits-back i; parity = parity-back i; «stop_bits» = stop-bits-back i; baud = baud-back i }
 

@@ -10,7 +10,7 @@ use lib.ListN.{length, drop, getD}
 use lib.Seq.{drop-cons}
 use borrow.Author.Tests.{eq-eqb, ne-eqb, eqb-true}
 use Rattle.refusals.proofs.Tables.{below}
-use Rattle.board.specs.Rates.{rates, rowIn, rowOf, rowAt, rateAt, firstAt, secondAt, thirdAt}
+use Rattle.board.specs.Rates.{rates, rowIn, rateRow, rowAt, rateAt, firstAt, secondAt, thirdAt}
 
 -- what one row says of the rows from it on
 module _ (table : List ℕ) (baud row : ℕ) (inside : row < length table) where
@@ -35,6 +35,6 @@ stands (rate ∷ more) baud inside = go (eqb rate baud) refl inside (stands more
 switches-back : (row : ℕ) → row < 8 → rowAt (firstAt row) (secondAt row) (thirdAt row) ≡ row
 switches-back row h = eqb-true _ row (below 8 (λ n. eqb (rowAt (firstAt n) (secondAt n) (thirdAt n)) n) refl row h)
 
-pub rate-back : (baud : ℕ) → rowOf baud < 8 → rateAt (firstAt (rowOf baud)) (secondAt (rowOf baud)) (thirdAt (rowOf baud)) ≡ baud
-unfolding rowOf
-rate-back baud h = ap (λ row. getD rates row 0) (switches-back (rowOf baud) h) ∙ stands rates baud h
+pub rate-back : (baud : ℕ) → rateRow baud < 8 → rateAt (firstAt (rateRow baud)) (secondAt (rateRow baud)) (thirdAt (rateRow baud)) ≡ baud
+unfolding rateRow
+rate-back baud h = ap (λ row. getD rates row 0) (switches-back (rateRow baud) h) ∙ stands rates baud h

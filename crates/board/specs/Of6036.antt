@@ -8,7 +8,7 @@ use Rattle.board.specs.declared.Parity.{Parity}
 use Rattle.board.specs.declared.Parity.the-variants.{None, Even, Odd}
 use Rattle.board.specs.declared.of_6036.Parameter.{Parameter}
 use Rattle.board.specs.Switches.{switch, byteOf}
-use Rattle.board.specs.Rates.{rateAt, rowOf, firstAt, secondAt, thirdAt}
+use Rattle.board.specs.Rates.{rateAt, rateRow, firstAt, secondAt, thirdAt}
 
 -- "2 on: 8 data bits, off: 7"
 abbrev pub dataBitsIn : ℕ → ℕ
@@ -48,14 +48,14 @@ switchesFor parameter =
     parameter .utc ∷ eqb (parameter .«data_bits») 8
     ∷ thirdFor (parameter .parity) ∷ fourthFor (parameter .parity)
     ∷ eqb (parameter .«stop_bits») 1
-    ∷ firstAt (rowOf (parameter .baud)) ∷ secondAt (rowOf (parameter .baud)) ∷ thirdAt (rowOf (parameter .baud)) ∷ []
+    ∷ firstAt (rateRow (parameter .baud)) ∷ secondAt (rateRow (parameter .baud)) ∷ thirdAt (rateRow (parameter .baud)) ∷ []
 
 -- what the board offers: 8 or 7 data bits, 1 or 2 stop bits, one of the eight rates
 unfoldable pub offered : Parameter → Bool
 offered parameter =
     (eqb (parameter .«data_bits») 8 || eqb (parameter .«data_bits») 7)
     && ((eqb (parameter .«stop_bits») 1 || eqb (parameter .«stop_bits») 2)
-    && ltb (rowOf (parameter .baud)) 8)
+    && ltb (rateRow (parameter .baud)) 8)
 
 -- "any other setting: 16"
 unfoldable pub byteFor : Parameter → Outcome ℕ

@@ -34,5 +34,5 @@ rowIn [] baud = 0
 rowIn (rate ∷ more) baud = cond (eqb rate baud) 0 (suc (rowIn more baud))
 
 -- the row of a rate, and 8 for a rate that the table does not have
-unfoldable pub rowOf : ℕ → ℕ
-rowOf baud = rowIn rates baud
+unfoldable pub rateRow : ℕ → ℕ
+rateRow baud = rowIn rates baud

@@ -7,7 +7,7 @@ ghost use mathlib.Core.Bool.{cond, _||_};
 ghost use Prim.Native.Nat.{_*_, _≤_};
 ghost use lib.Dec.{eqb};
 ghost use Rattle.board.specs.Switches.{bit};
-ghost use Rattle.board.specs.Rates.{rateAt, rowOf};
+ghost use Rattle.board.specs.Rates.{rateAt, rateRow};
 
 pub enum Parity {
     None,
@@ -79,7 +79,7 @@ fn rate_at(first: bool, second: bool, third: bool) -> u32
 
 // The row of a rate, or 8 where it stands in none.
 fn row_of(baud: u32) -> u8
-    ensures { λ r. ⌜ r ≡ rowOf baud ⌝ }
+    ensures { λ r. ⌜ r ≡ rateRow baud ⌝ }
 {
     let rates = RATES;
     let mut row = 0;

@@ -17,7 +17,7 @@ use Rattle.record.specs.Next.{weekdayAfter, recordAfter, isLastOfCalendar, next
 use Rattle.record.specs.Utc.{seasonShift, localSeconds, toUtc, utcSeconds}
 use Rattle.clock.specs.declared.Clock.{Clock}
 use Rattle.clock.specs.Stepping.{carriesDate, clockSecond, steppedBy, stepOf}
-use Rattle.clock.specs.Running.{stepped, calendarSeconds, dated, standing}
+use Rattle.clock.specs.Running.{stepped, calendarSeconds, dated, lasting}
 use Rattle.clock.proofs.RunLaws.{steps-add-local-seconds}
 
 -- a clock's second is the record's next second
@@ -30,36 +30,36 @@ second-is-next rec next e = go (nextSecondOf rec) e
     go (refused n) e = let z : _≡_ {A = ℕ} 0 1 = cc in absurd (omega arith)
 
 -- the next second of a record says the same beside its time, date and weekday
-standing-after : (rec : Record) → standing (recordAfter rec) ≡ standing rec
+standing-after : (rec : Record) → lasting (recordAfter rec) ≡ lasting rec
 standing-after (Dated layout status weekday date time) = go (isLastSecond time)
   where
     go : (last : Bool)
-        → standing (cond last (Dated layout status (weekdayAfter weekday) (dayAfter date) (timeAfter time)) (Dated layout status weekday date (timeAfter time)))
+        → lasting (cond last (Dated layout status (weekdayAfter weekday) (dayAfter date) (timeAfter time)) (Dated layout status weekday date (timeAfter time)))
         ≡ dated layout status
     go true = refl
     go false = refl
 standing-after (TimeOnly layout time) = refl
 
-standing-next : (rec next : Record) → nextSecondOf rec ≡ done next → standing next ≡ standing rec
+standing-next : (rec next : Record) → nextSecondOf rec ≡ done next → lasting next ≡ lasting rec
 unfolding nextSecondOf
 standing-next rec next e =
     let made = was-done (refusalOf rec else 12 when isLastOfCalendar rec) (recordAfter rec) next e in
-    ap standing (sym (made .1)) ∙ standing-after rec
+    ap lasting (sym (made .1)) ∙ standing-after rec
 
 -- "stepping does not change the season", nor anything else of the status, nor the layout
-pub standing-stays : (clock : Clock) → standing (stepOf clock .clock .rec) ≡ standing (clock .rec)
+pub lasting-stays : (clock : Clock) → lasting (stepOf clock .clock .rec) ≡ lasting (clock .rec)
 unfolding stepOf
-standing-stays clock = go (clockSecond (clock .rec)) refl
+lasting-stays clock = go (clockSecond (clock .rec)) refl
   where
-    go : (outcome : Outcome Record) → clockSecond (clock .rec) ≡ outcome → standing (steppedBy clock outcome .clock .rec) ≡ standing (clock .rec)
+    go : (outcome : Outcome Record) → clockSecond (clock .rec) ≡ outcome → lasting (steppedBy clock outcome .clock .rec) ≡ lasting (clock .rec)
     go (done next) e = standing-next (clock .rec) next (second-is-next (clock .rec) next e)
     go (refused n) e = refl
 
 -- "stepping does not change the season", however often
-pub standing-stays-always : (n : ℕ) (clock : Clock) → standing (stepped n clock .rec) ≡ standing (clock .rec)
+pub lasting-stays-always : (n : ℕ) (clock : Clock) → lasting (stepped n clock .rec) ≡ lasting (clock .rec)
 unfolding stepped
-standing-stays-always zero clock = refl
-standing-stays-always (suc n) clock = standing-stays (stepped n clock) ∙ standing-stays-always n clock
+lasting-stays-always zero clock = refl
+lasting-stays-always (suc n) clock = lasting-stays (stepped n clock) ∙ lasting-stays-always n clock
 
 -- UTC seconds go with local seconds while the status stays.
 shifted : (status : Status) (l u n : ℕ) → toUtc (record { 0 = l }) status ≡ done (record { 0 = u })
@@ -72,7 +72,7 @@ shifted status l u n e =
     let later : l + n - seasonShift status ≡ u + n = omega arith in
     does _ (rw (le-ltb (l + n) (seasonShift status) (omega arith))) ∙ ap done (λ i. record { 0 = later i })
 
-utc-goes-along : (rec next : Record) (l u n : ℕ) → standing next ≡ standing rec → localSeconds rec ≡ done (record { 0 = l })
+utc-goes-along : (rec next : Record) (l u n : ℕ) → lasting next ≡ lasting rec → localSeconds rec ≡ done (record { 0 = l })
     → localSeconds next ≡ done (record { 0 = l + n }) → utcSeconds rec ≡ done (record { 0 = u })
     → utcSeconds next ≡ done (record { 0 = u + n })
 utc-goes-along (Dated layout status weekday date time) (Dated layout′ status′ weekday′ date′ time′) l u n same here later utc =
@@ -89,5 +89,5 @@ pub steps-add-utc-seconds : (clock : Clock) (l u n : ℕ) → localSeconds (cloc
     → utcSeconds (clock .rec) ≡ done (record { 0 = u }) → l + n < calendarSeconds
     → utcSeconds (stepped n clock .rec) ≡ done (record { 0 = u + n })
 steps-add-utc-seconds clock l u n local utc before =
-    utc-goes-along (clock .rec) (stepped n clock .rec) l u n (standing-stays-always n clock) local
+    utc-goes-along (clock .rec) (stepped n clock .rec) l u n (lasting-stays-always n clock) local
     (steps-add-local-seconds clock l local n before) utc

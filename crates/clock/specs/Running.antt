@@ -18,10 +18,10 @@ abbrev pub calendarSeconds : ℕ
 calendarSeconds = 36525 * 86400
 
 -- "stepping does not change the season": what a record says beside its time, date and weekday. The season stands in the status
-pub data Standing : Type 0 where
-  dated : DatedLayout → Status → Standing
-  timeOnly : TimeLayout → Standing
+pub data Lasting : Type 0 where
+  dated : DatedLayout → Status → Lasting
+  timeOnly : TimeLayout → Lasting
 
-abbrev pub standing : Record → Standing
-standing (Dated layout status weekday date time) = dated layout status
-standing (TimeOnly layout time) = timeOnly layout
+abbrev pub lasting : Record → Lasting
+lasting (Dated layout status weekday date time) = dated layout status
+lasting (TimeOnly layout time) = timeOnly layout

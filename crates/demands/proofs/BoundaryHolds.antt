@@ -6,13 +6,13 @@ use Rattle.calendar.specs.Calendar.{isLeap, monthLength, monthInRange, dateInRa
 use Rattle.calendar.specs.TimeOfDay.{timeInRange, timeRefusal, secondsOf}
 use Rattle.record.specs.Rule.{plainUtc, tableCanSay, statusAllowed, weekdayAllowed, weekdayAgrees, datedRefusal}
 use Rattle.record.specs.Utc.{seasonShift, toUtc}
-use Rattle.layouts.specs.Layouts.{rowOf, layoutOf}
+use Rattle.layouts.specs.Layouts.{placesOf, layoutOf}
 use Rattle.layouts.specs.Coding.{statusIn6021, statusIn5500}
 use Rattle.telegram.specs.Reading.{carried, bodyRefusal, readOf}
 use Rattle.board.specs.Of6036.{parameterIn}
 use Rattle.demands.specs.Boundary.{TheBoundaryTableHolds}
 
 pub boundary-table : TheBoundaryTableHolds
-unfolding unless isDecimal isCapital codeValue isLeap monthLength monthInRange dateInRange dayExists monthStart dayOf timeInRange timeRefusal secondsOf plainUtc tableCanSay statusAllowed weekdayAllowed weekdayAgrees datedRefusal seasonShift toUtc rowOf layoutOf statusIn6021 statusIn5500 carried bodyRefusal readOf parameterIn
+unfolding unless isDecimal isCapital codeValue isLeap monthLength monthInRange dateInRange dayExists monthStart dayOf timeInRange timeRefusal secondsOf plainUtc tableCanSay statusAllowed weekdayAllowed weekdayAgrees datedRefusal seasonShift toUtc placesOf layoutOf statusIn6021 statusIn5500 carried bodyRefusal readOf parameterIn
 boundary-table =
     ((refl, refl), ((refl, refl), ((refl, refl), ((refl, refl), ((refl, refl), ((refl, refl), ((refl, refl), ((refl, refl), ((refl, refl), ((refl, refl), ((refl, refl), (refl, (refl, tt)))))))))))))

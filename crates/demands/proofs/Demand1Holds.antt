@@ -24,7 +24,7 @@ use Rattle.telegram.specs.declared.several.Several.{Several}
 use Rattle.telegram.specs.Reading.{bodyOf, carried, readOf}
 use Rattle.telegram.specs.Writing.{written, laidIn, oneMore, bufferAfter}
 use Rattle.telegram.proofs.SeveralLaws.{told-refused, ended-before, goes-in, goes-into}
-use Rattle.telegram.proofs.Demand.{refused-is-untouched}
+use Rattle.telegram.proofs.ReadsBack.{refused-is-untouched}
 use Rattle.clock.specs.Stepping.{stepOf, clockSecond, steppedBy}
 use Rattle.clock.specs.Answers.{stepAnswer}
 use Rattle.board.specs.Switches.{byteOf}

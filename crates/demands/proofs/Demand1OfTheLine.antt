@@ -13,7 +13,7 @@ use Rattle.places.specs.Places.{fixedHolds, decimalHolds, codeHolds, every}
 use Rattle.record.specs.declared.Record.{Record}
 use Rattle.record.specs.declared.Record.the-variants.{Dated, TimeOnly}
 use Rattle.layouts.specs.declared.Layout.{Layout}
-use Rattle.layouts.specs.Layouts.{rowOf, layoutOf}
+use Rattle.layouts.specs.Layouts.{placesOf, layoutOf}
 use Rattle.telegram.specs.Reading.{bodyOf, carried, readOf}
 use Rattle.telegram.proofs.Frames.{frame-is-framed}
 use Rattle.line.specs.declared.Reader.{Reader}
@@ -51,9 +51,9 @@ among-more (first ∷ others) more n e = go (eqb n first) e (among-more others m
 -- STX and ETX stand, so that 2 is not among what a telegram of the line is refused with
 abbrev framedRules : List ℕ → Outcome Layout → List Rule
 framedRules bytes (done layout) =
-    3 givenWhen not (every fixedHolds (rowOf layout) (bodyOf true bytes))
-    ∷ 4 givenWhen not (every decimalHolds (rowOf layout) (bodyOf true bytes))
-    ∷ 5 givenWhen not (every codeHolds (rowOf layout) (bodyOf true bytes))
+    3 givenWhen not (every fixedHolds (placesOf layout) (bodyOf true bytes))
+    ∷ 4 givenWhen not (every decimalHolds (placesOf layout) (bodyOf true bytes))
+    ∷ 5 givenWhen not (every codeHolds (placesOf layout) (bodyOf true bytes))
     ∷ recordRules (carried layout (bodyOf true bytes))
 framedRules bytes (refused n) = []
 

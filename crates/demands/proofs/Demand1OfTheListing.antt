@@ -11,7 +11,7 @@ use Rattle.record.specs.declared.Record.the-variants.{Dated, TimeOnly}
 use Rattle.record.specs.declared.RecordAnswer.{RecordAnswer}
 use Rattle.record.specs.declared.RecordAnswer.the-variants as answer
 use Rattle.record.specs.Rule.{refusalOf}
-use Rattle.listing.specs.Listing.{recordRow, refusedRow, rowOf, laid}
+use Rattle.listing.specs.Listing.{recordRow, refusedRow, eventRow, laid}
 use Rattle.demands.specs.Numbers.{_givenWhen_}
 use Rattle.demands.specs.Rules.{recordRules, rowRules}
 use Rattle.demands.specs.Demand1.{ARowRefuses, ARefusedRowChangesNoByte}
@@ -38,9 +38,9 @@ room-rule row buffer =
     let short = 13 when ltb (length buffer) (length row) in
     unless-by short (length row) (13 givenWhen ltb (length buffer) (length row) ∷ []) (sym (else-nothing short))
 
-row-rules : (start : ℕ) (told : RecordAnswer) (buffer : List ℕ) → laid (rowOf start told) buffer .0 byFirst rowRules start told (length buffer)
+row-rules : (start : ℕ) (told : RecordAnswer) (buffer : List ℕ) → laid (eventRow start told) buffer .0 byFirst rowRules start told (length buffer)
 row-rules start (answer.Good rec) buffer =
-    ap (λ o. after o (λ v. done tt)) (answer-so (rowOf start (answer.Good rec)) buffer)
+    ap (λ o. after o (λ v. done tt)) (answer-so (eventRow start (answer.Good rec)) buffer)
     ∙ then-by (refusalOf rec) (recordRow start rec) (sized buffer) (recordRules rec) _ (record-rules rec) (room-rule (recordRow start rec) buffer)
 row-rules start (answer.Refused number) buffer =
     ap (λ o. after o (λ v. done tt)) (answer-so (done (refusedRow start number)) buffer) ∙ room-rule (refusedRow start number) buffer
@@ -52,12 +52,12 @@ row-tested start (answer.Refused number) room = refl
 
 pub demand-1-row : ARowRefuses
 demand-1-row start told buffer =
-    refuses (5 ∷ 6 ∷ 7 ∷ 8 ∷ 13 ∷ []) (laid (rowOf start told) buffer .0) (rowRules start told (length buffer)) (row-rules start told buffer)
+    refuses (5 ∷ 6 ∷ 7 ∷ 8 ∷ 13 ∷ []) (laid (eventRow start told) buffer .0) (rowRules start told (length buffer)) (row-rules start told buffer)
     (row-tested start told (length buffer))
 
 pub demand-1-no-byte-of-a-row : ARefusedRowChangesNoByte
 unfolding laid
-demand-1-no-byte-of-a-row start told buffer n = go (rowOf start told)
+demand-1-no-byte-of-a-row start told buffer n = go (eventRow start told)
   where
     laid-or-not : (row : List ℕ) (short : Bool)
         → cond {A = Outcome ℕ × List ℕ} short (refused 13, buffer) (done (length row), row ++ drop (length row) buffer) .0 ≡ refused n

@@ -20,7 +20,7 @@ use Rattle.telegram.specs.Reading.{readOf}
 use Rattle.telegram.specs.Writing.{bodyBytes, telegramOf, as6021, recordToWrite, controlOf, laid, written, laidIn}
 use Rattle.telegram.proofs.WriteLaws.{room}
 use Rattle.telegram.proofs.BackAndForth.{written-reads-back, accepted-is-written}
-use Rattle.telegram.proofs.Demand.{write-reads-back}
+use Rattle.telegram.proofs.ReadsBack.{write-reads-back}
 use Rattle.demands.specs.Demand2.{Good, plain, advanced, ATelegramIsItsRow, ATelegramHasTheTablesLength, WrittenByTheTables, ReadByTheTables, TheReaderAcceptsExactlyWhatTheWriterCanMake, WhatIsWrittenReadsBack, WhatIsWrittenWithoutASettingReadsBack, WrittenWithAdvanceItReadsBackAsTheNextSecond, TheNextSecondIsOneLater, TheNextSecondOfADayIsOneLater}
 use Rattle.demands.proofs.TableLengths.{telegram-length}
 

@@ -11,9 +11,9 @@ use Rattle.line.specs.Line.{freshReader, freshLine, lineOf, readerOf}
 use Rattle.line.proofs.ReaderLaws.{reader-back}
 use Rattle.line.proofs.StaysGood.{good-line}
 use Rattle.line.proofs.UsesUp.{uses-up}
-use Rattle.line.specs.Demand.{Sent, allGood}
+use Rattle.line.specs.SentLine.{Sent, allGood}
 use Rattle.line.proofs.CutLaws.{a-feeding-is, good-fresh, calls-tell, enough-calls}
-use Rattle.line.proofs.DemandLaws.{exactly-those, true-stray, end-then, same-line-same-records}
+use Rattle.line.proofs.HandsBack.{exactly-those, true-stray, end-then, same-line-same-records}
 use Rattle.demands.specs.Demand3.{GoodTelegrams, NoStxAround, TheReaderHandsBackThatList, EveryCutCanBeUsedUp, AsByCalls, UsingUpIsSuchAFeeding, TwoListsThatDifferNeverMakeTheSameLine}
 
 -- the two conditions, as the one test of the line's laws

@@ -18,7 +18,7 @@ use Rattle.record.specs.Rule.{statusAllowed, weekdayAllowed, weekdayAgrees, dat
 use Rattle.record.specs.Next.{weekdayAfter, recordAfter, isLastOfCalendar, nextSecondOf}
 use Rattle.record.specs.Utc.{seasonShift, toUtc, utcSeconds}
 use Rattle.layouts.specs.declared.Layout.{Layout}
-use Rattle.layouts.specs.Layouts.{rowOf, ownLayout, layoutOf}
+use Rattle.layouts.specs.Layouts.{placesOf, ownLayout, layoutOf}
 use Rattle.telegram.specs.declared.write.Choice.{Choice}
 use Rattle.telegram.specs.declared.write.Choice.the-variants.{Named, Unnamed}
 use Rattle.telegram.specs.Reading.{bodyOf, framed, carried, bodyRefusal, readOf}
@@ -61,9 +61,9 @@ in-layout : (control : Bool) (bytes : List ℕ) (layout : Layout)
 unfolding bodyRefusal
 in-layout control bytes layout =
     let body = bodyOf control bytes in
-    let fixed = not (every fixedHolds (rowOf layout) body) in
-    let decimals = not (every decimalHolds (rowOf layout) body) in
-    let codes = not (every codeHolds (rowOf layout) body) in
+    let fixed = not (every fixedHolds (placesOf layout) body) in
+    let decimals = not (every decimalHolds (placesOf layout) body) in
+    let codes = not (every codeHolds (placesOf layout) body) in
     unless-by _ (carried layout body) (rulesIn control bytes (done layout))
     (ap (λ n. 2 when (control && not (framed bytes)) else n)
     (sym (else-assoc (3 when fixed) (4 when decimals else 5 when codes) (refusalOf (carried layout body)))

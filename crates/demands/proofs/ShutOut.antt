@@ -13,7 +13,7 @@ use Rattle.record.specs.declared.Record.{Record}
 use Rattle.record.specs.declared.Record.the-variants.{Dated, TimeOnly}
 use Rattle.record.specs.declared.RecordAnswer.the-variants as answer
 use Rattle.record.specs.Rule.{refusalOf}
-use Rattle.layouts.specs.Layouts.{rowOf, layoutOf}
+use Rattle.layouts.specs.Layouts.{placesOf, layoutOf}
 use Rattle.telegram.specs.Reading.{carried, bodyRefusal, readOf}
 use Rattle.telegram.specs.Writing.{bodyBytes, telegramOf}
 use Rattle.line.specs.declared.Reader.{Reader}
@@ -22,7 +22,7 @@ use Rattle.line.specs.declared.Heard.{Heard}
 use Rattle.line.specs.declared.Heard.the-variants.{Nothing, Event, Refused}
 use Rattle.line.specs.Line.{readerOf, freshReader, wellFormed, feedReader}
 use Rattle.line.specs.Cuts.{heardThen, Served, AllUsedUp}
-use Rattle.line.specs.Demand.{Sent, bytesSent, eventsSent}
+use Rattle.line.specs.SentLine.{Sent, bytesSent, eventsSent}
 use Rattle.demands.specs.Demand2.{WritesByTheTables, ReadsByTheTables}
 use Rattle.demands.specs.Demand3.{HandsBackThatList}
 use Rattle.demands.specs.Wrong.{refusingReader, answering, refusingLine, midnight, fixedReader, fixedLine, idleWriter, firstPieceLine, withStray, inventingLine}
@@ -42,14 +42,14 @@ unfolding timeInRange timeRefusal
 is-good = refl
 
 written-so : telegramOf true early ≡ its-bytes
-unfolding bodyBytes rowOf render codeCharacter
+unfolding bodyBytes placesOf render codeCharacter
 written-so = refl
 
 abbrev heard-it : Fed
 heard-it = record { reader = readerOf (record { held = []; fed = 10; stray = 0 }); taken = 10; heard = Event (answer.Good early) 0 10 }
 
 heard-so : feedReader freshReader its-bytes ≡ heard-it
-unfolding unless isDecimal isCapital codeValue timeInRange timeRefusal rowOf layoutOf carried bodyRefusal readOf feedReader wellFormed
+unfolding unless isDecimal isCapital codeValue timeInRange timeRefusal placesOf layoutOf carried bodyRefusal readOf feedReader wellFormed
 heard-so = refl
 
 -- the demand, of that telegram alone in one piece, for any reader that takes it whole

@@ -12,8 +12,8 @@ use Rattle.record.specs.declared.DatedLayout.the-variants.{L6021, L2000, L5500,
 use Rattle.record.specs.declared.TimeLayout.the-variants.{T6021, T5500, T5050}
 use Rattle.record.specs.declared.Record.{Record}
 use Rattle.layouts.specs.declared.Layout.{Layout}
-use Rattle.layouts.specs.declared.Layout.the-variants.{Full, Brief}
-use Rattle.layouts.specs.Layouts.{rowOf, ownLayout, byTrailer, layoutOf}
+use Rattle.layouts.specs.declared.Layout.the-variants as layouts
+use Rattle.layouts.specs.Layouts.{placesOf, ownLayout, byTrailer, layoutOf}
 use Rattle.telegram.specs.Reading.{bodyOf}
 use Rattle.telegram.specs.Writing.{telegramOf}
 use Rattle.telegram.proofs.WriteLaws.{length-body, length-framed}
@@ -21,15 +21,15 @@ use Rattle.demands.specs.Lengths.{sevenLayouts, lengthIn, lengthOf}
 use Rattle.demands.specs.Numbers.{_givenWhen_, among}
 use Rattle.demands.proofs.Refusing.{_byFirst_}
 
-two-more : (layout : Layout) → length (rowOf layout) + 2 ≡ lengthIn layout
-unfolding rowOf
-two-more (Full L6021) = refl
-two-more (Full L2000) = refl
-two-more (Full L5500) = refl
-two-more (Full L5050) = refl
-two-more (Brief T6021) = refl
-two-more (Brief T5500) = refl
-two-more (Brief T5050) = refl
+two-more : (layout : Layout) → length (placesOf layout) + 2 ≡ lengthIn layout
+unfolding placesOf
+two-more (layouts.Dated L6021) = refl
+two-more (layouts.Dated L2000) = refl
+two-more (layouts.Dated L5500) = refl
+two-more (layouts.Dated L5050) = refl
+two-more (layouts.TimeOnly T6021) = refl
+two-more (layouts.TimeOnly T5500) = refl
+two-more (layouts.TimeOnly T5050) = refl
 
 pub telegram-length : (control : Bool) (rec : Record) → length (telegramOf control rec) ≡ lengthOf control (ownLayout rec)
 telegram-length true rec = length-framed rec ∙ ap (λ n. n + 2) (length-body rec) ∙ two-more (ownLayout rec)
@@ -42,7 +42,7 @@ found bytes =
     by-length (eqb (length bytes) 16) (eqb (length bytes) 8) (eqb (length bytes) 18) (eqb (length bytes) 19) (eqb (length bytes) 23) (eqb (length bytes) 11)
   where
     by-length : (a b c d e f : Bool)
-        → cond a (done (Full L6021)) (cond b (done (byTrailer bytes)) (cond c (done (Full L2000)) (cond d (done (Full L5500)) (cond e (done (Full L5050)) (cond f (done (Brief T5050)) (refused 1))))))
+        → cond a (done (layouts.Dated L6021)) (cond b (done (byTrailer bytes)) (cond c (done (layouts.Dated L2000)) (cond d (done (layouts.Dated L5500)) (cond e (done (layouts.Dated L5050)) (cond f (done (layouts.TimeOnly T5050)) (refused 1))))))
         byFirst 1 givenWhen not (a || (b || (c || (d || (b || (e || (f || false))))))) ∷ []
     by-length true b c d e f = refl
     by-length false true c d e f = refl

@@ -31,7 +31,7 @@ use Rattle.clock.specs.Stepping.{stepOf}
 use Rattle.clock.specs.Answers.{stepAnswer}
 use Rattle.board.specs.declared.of_6036.Parameter.{Parameter}
 use Rattle.board.specs.Of6036.{offered, byteFor}
-use Rattle.listing.specs.Listing.{rowOf, laid}
+use Rattle.listing.specs.Listing.{eventRow, laid}
 use Rattle.demands.specs.Numbers.{_givenWhen_, lowest, _refusedBy_, _doneOr_, _noneOr_, _silentOr_, EachSilentOr}
 use Rattle.demands.specs.Rules.{dateRules, recordRules, readingRules, nextSecondRules, writingRules, utcRules, stepRules, rowRules}
 
@@ -112,8 +112,8 @@ TheParameterByteRefuses = (setting : Parameter) → byteFor setting refusedBy 16
 abbrev pub ARowRefuses : Type 0
 ARowRefuses =
     (start : ℕ) (told : RecordAnswer) (buffer : List ℕ)
-    → (laid (rowOf start told) buffer .0 refusedBy rowRules start told (length buffer))
-    × (laid (rowOf start told) buffer .0 doneOr 5 ∷ 6 ∷ 7 ∷ 8 ∷ 13 ∷ [])
+    → (laid (eventRow start told) buffer .0 refusedBy rowRules start told (length buffer))
+    × (laid (eventRow start told) buffer .0 doneOr 5 ∷ 6 ∷ 7 ∷ 8 ∷ 13 ∷ [])
 
 -- the calendar: a date's day number 6, 7; the date of a day number 12; the day after 6, 7, 12; the length of a month 6; the second of
 -- the day 6; the next second of the day 6
@@ -142,8 +142,8 @@ ARefusedOneMoreChangesNoByte =
 -- nor does a refused row of the listing
 abbrev pub ARefusedRowChangesNoByte : Type 0
 ARefusedRowChangesNoByte =
-    (start : ℕ) (told : RecordAnswer) (buffer : List ℕ) (n : ℕ) → laid (rowOf start told) buffer .0 ≡ refused n
-    → laid (rowOf start told) buffer .1 ≡ buffer
+    (start : ℕ) (told : RecordAnswer) (buffer : List ℕ) (n : ℕ) → laid (eventRow start told) buffer .0 ≡ refused n
+    → laid (eventRow start told) buffer .1 ≡ buffer
 
 -- "a refused state .. comes back unchanged": with 15, and "takes no byte, gives no event and nothing else"
 abbrev pub ARefusedStateComesBackUnchanged : Type 0

@@ -17,7 +17,7 @@ use Rattle.record.specs.declared.utc.LocalSeconds.{LocalSeconds}
 use Rattle.record.specs.Rule.{refusalOf}
 use Rattle.record.specs.Next.{nextSecondOf}
 use Rattle.record.specs.Utc.{localSeconds}
-use Rattle.layouts.specs.Layouts.{rowOf, ownLayout}
+use Rattle.layouts.specs.Layouts.{placesOf, ownLayout}
 use Rattle.layouts.specs.Coding.{digitsOut}
 use Rattle.telegram.specs.declared.write.Choice.{Choice}
 use Rattle.telegram.specs.declared.write.Choice.the-variants.{Named, Unnamed}
@@ -37,13 +37,13 @@ abbrev pub advanced : Bool → Choice
 advanced control = Named (record { control = control; advance = true })
 
 -- "Every telegram of the seven layouts in document 01 is read and written exactly as the makers' tables there say."
--- The table: `rowOf` has a row of places for each layout. A telegram is its layout's row, each place filled by its digit,
+-- The table: `placesOf` has a row of places for each layout. A telegram is its layout's row, each place filled by its digit,
 -- between STX and ETX; without control characters both are missing.
 abbrev pub ATelegramIsItsRow : Type 0
 ATelegramIsItsRow =
     (rec : Record)
-    → (telegramOf true rec ≡ 2 ∷ map (byteAt (digitsOut rec)) (rowOf (ownLayout rec)) ++ 3 ∷ [])
-    × (telegramOf false rec ≡ map (byteAt (digitsOut rec)) (rowOf (ownLayout rec)))
+    → (telegramOf true rec ≡ 2 ∷ map (byteAt (digitsOut rec)) (placesOf (ownLayout rec)) ++ 3 ∷ [])
+    × (telegramOf false rec ≡ map (byteAt (digitsOut rec)) (placesOf (ownLayout rec)))
 
 -- It has the table's length.
 abbrev pub ATelegramHasTheTablesLength : Type 0

@@ -10,9 +10,9 @@ use Rattle.line.specs.declared.Reader.{Reader}
 use Rattle.line.specs.declared.Fed.{Fed}
 use Rattle.line.specs.declared.Heard.the-variants.{Nothing}
 use Rattle.line.specs.Line.{freshReader, wellFormed, endReader}
-use Rattle.line.specs.Cuts.{calls, Served, joined, heardOf, readerBehind, AllUsedUp}
+use Rattle.line.specs.Cuts.{calls, Served, bytesServed, heardOf, readerBehind, AllUsedUp}
 use Rattle.line.specs.Pieces.{passing}
-use Rattle.line.specs.Demand.{Sent, bytesSent, noStx, eventsSent, straySent}
+use Rattle.line.specs.SentLine.{Sent, bytesSent, noStx, eventsSent, straySent}
 use Rattle.demands.specs.Programs.{feeds}
 use Rattle.demands.specs.Demand1.{AsDeclared}
 
@@ -34,7 +34,7 @@ NoStxAround (sent ∷ others) behind = (noStx (sent .before) ≡ true) × NoStxA
 abbrev pub HandsBackThatList : (Reader → List ℕ → Fed) → Type 0
 HandsBackThatList feed =
     (sents : List Sent) (behind : List ℕ) → GoodTelegrams sents → NoStxAround sents behind
-    → (served : List Served) → joined served ≡ bytesSent sents behind → AllUsedUp feed freshReader served
+    → (served : List Served) → bytesServed served ≡ bytesSent sents behind → AllUsedUp feed freshReader served
     → (heardOf feed freshReader served ≡ eventsSent 0 sents)
     × (readerBehind feed freshReader served .stray ≡ straySent sents behind % 4294967296)
     × (endReader (readerBehind feed freshReader served) .heard ≡ Nothing)

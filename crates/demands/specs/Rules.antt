@@ -17,7 +17,7 @@ use Rattle.record.specs.Rule.{statusAllowed, weekdayAllowed, weekdayAgrees}
 use Rattle.record.specs.Next.{isLastOfCalendar}
 use Rattle.record.specs.Utc.{seasonShift}
 use Rattle.layouts.specs.declared.Layout.{Layout}
-use Rattle.layouts.specs.Layouts.{rowOf, ownLayout, layoutOf}
+use Rattle.layouts.specs.Layouts.{placesOf, ownLayout, layoutOf}
 use Rattle.telegram.specs.declared.write.Choice.{Choice}
 use Rattle.telegram.specs.declared.write.Choice.the-variants.{Named, Unnamed}
 use Rattle.telegram.specs.Reading.{bodyOf, framed, carried}
@@ -46,9 +46,9 @@ recordRules (TimeOnly layout time) = 6 givenWhen not (timeInRange time) ∷ []
 abbrev pub rulesIn : Bool → List ℕ → Outcome Layout → List Rule
 rulesIn control bytes (done layout) =
     2 givenWhen (control && not (framed bytes))
-    ∷ 3 givenWhen not (every fixedHolds (rowOf layout) (bodyOf control bytes))
-    ∷ 4 givenWhen not (every decimalHolds (rowOf layout) (bodyOf control bytes))
-    ∷ 5 givenWhen not (every codeHolds (rowOf layout) (bodyOf control bytes))
+    ∷ 3 givenWhen not (every fixedHolds (placesOf layout) (bodyOf control bytes))
+    ∷ 4 givenWhen not (every decimalHolds (placesOf layout) (bodyOf control bytes))
+    ∷ 5 givenWhen not (every codeHolds (placesOf layout) (bodyOf control bytes))
     ∷ recordRules (carried layout (bodyOf control bytes))
 rulesIn control bytes (refused n) = []
 

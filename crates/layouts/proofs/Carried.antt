@@ -23,15 +23,15 @@ use Rattle.record.specs.declared.Record.the-variants.{Dated, TimeOnly}
 use Rattle.record.specs.Rule.{weekdayAllowed, refusalOf}
 use Rattle.record.proofs.RuleLaws as rule
 use Rattle.layouts.specs.declared.Layout.{Layout}
-use Rattle.layouts.specs.declared.Layout.the-variants.{Full, Brief}
-use Rattle.layouts.specs.Layouts.{hh, mm, ss, rowOf, ownLayout}
+use Rattle.layouts.specs.declared.Layout.the-variants as layouts
+use Rattle.layouts.specs.Layouts.{hh, mm, ss, placesOf, ownLayout}
 use Rattle.layouts.specs.Coding.{hasFullYear, number, recordIn, digitsOut}
 use Rattle.layouts.proofs.Bits.{century-small}
 use Rattle.layouts.proofs.CodingLaws.{pair-back, tens-back, ones-back, status-small, weekday-small, status-back, weekday-back, status-code-back, weekday-code-back, year-back, year-low, century-back}
 
 pub own-layout : (layout : Layout) (digits : List ℕ) → ownLayout (recordIn layout digits) ≡ layout
-own-layout (Full layout) digits = refl
-own-layout (Brief layout) digits = refl
+own-layout (layouts.Dated layout) digits = refl
+own-layout (layouts.TimeOnly layout) digits = refl
 
 -- A good record, from its digits.
 weekday-bound : (weekday : ℕ) → weekdayAllowed weekday ≡ true → weekday ≤ 7
@@ -109,8 +109,8 @@ idle-at row [] k h slot e = refl
 idle-at row (digit ∷ digits) k h zero e = idle-here (usedIn k row) digit (h .0) (rw add-zero at e)
 idle-at row (digit ∷ digits) k h (suc slot) e = idle-at row digits (suc k) (h .1) slot (rw (add-suc, ← suc-add) at e)
 
-idle-slots : (rec : Record) → Idle (rowOf (ownLayout rec)) 0 (digitsOut rec)
-unfolding rowOf
+idle-slots : (rec : Record) → Idle (placesOf (ownLayout rec)) 0 (digitsOut rec)
+unfolding placesOf
 idle-slots (Dated L6021 status weekday date time) = omega arith
 idle-slots (Dated L2000 status weekday date time) = omega arith
 idle-slots (Dated L5500 status weekday date time) = omega arith
@@ -119,9 +119,9 @@ idle-slots (TimeOnly T6021 time) = omega arith
 idle-slots (TimeOnly T5500 time) = omega arith
 idle-slots (TimeOnly T5050 time) = omega arith
 
-pub digits-idle : (rec : Record) (slot : ℕ) → usedIn slot (rowOf (ownLayout rec)) ≡ false → getD (digitsOut rec) slot 0 ≡ 0
+pub digits-idle : (rec : Record) (slot : ℕ) → usedIn slot (placesOf (ownLayout rec)) ≡ false → getD (digitsOut rec) slot 0 ≡ 0
 digits-idle rec slot e =
-    idle-at (rowOf (ownLayout rec)) (digitsOut rec) 0 (idle-slots rec) slot (rw zero-add e)
+    idle-at (placesOf (ownLayout rec)) (digitsOut rec) 0 (idle-slots rec) slot (rw zero-add e)
 
 -- Digits, from the record that they carry. Sixteen digits, spelled out:
 abbrev spelled : ℕ → ℕ → List ℕ → List ℕ
@@ -155,25 +155,25 @@ module _ (digits : List ℕ) (h : Held digits) where
   code slot e = let top : getD digits slot 0 ≤ 15 = rw e at (h .within slot) in omega arith
 
 -- a layout with a two-digit year leaves the two slots of the century alone
-no-century : (layout : DatedLayout) (digits : List ℕ) → ((slot : ℕ) → usedIn slot (rowOf (Full layout)) ≡ false → getD digits slot 0 ≡ 0)
+no-century : (layout : DatedLayout) (digits : List ℕ) → ((slot : ℕ) → usedIn slot (placesOf (layouts.Dated layout)) ≡ false → getD digits slot 0 ≡ 0)
     → hasFullYear layout ≡ false → number digits 12 ≡ 0
-unfolding rowOf
+unfolding placesOf
 no-century L6021 digits alone e = omega (arith, alone 12 refl, alone 13 refl)
 no-century L2000 digits alone e = let z : _≡_ {A = ℕ} 0 1 = cc in absurd (omega arith)
 no-century L5500 digits alone e = omega (arith, alone 12 refl, alone 13 refl)
 no-century L5050 digits alone e = omega (arith, alone 12 refl, alone 13 refl)
 
 -- a layout of the time alone uses the six slots of the time
-brief-uses : (layout : TimeLayout) (slot : ℕ) → usedIn slot (rowOf (Brief layout)) ≡ usedIn slot (hh ++ mm ++ ss)
-unfolding rowOf
+brief-uses : (layout : TimeLayout) (slot : ℕ) → usedIn slot (placesOf (layouts.TimeOnly layout)) ≡ usedIn slot (hh ++ mm ++ ss)
+unfolding placesOf
 brief-uses T6021 slot = refl
 brief-uses T5500 slot = refl
 brief-uses T5050 slot = refl
 
 pub digits-back : (layout : Layout) (digits : List ℕ) → Held digits
-    → ((slot : ℕ) → usedIn slot (rowOf layout) ≡ false → getD digits slot 0 ≡ 0)
+    → ((slot : ℕ) → usedIn slot (placesOf layout) ≡ false → getD digits slot 0 ≡ 0)
     → digitsOut (recordIn layout digits) ≡ digits
-digits-back (Full layout) digits h alone =
+digits-back (layouts.Dated layout) digits h alone =
     let s = code digits h 0 refl in
     let w = code digits h 1 refl in
     let year-digits = year-low layout (number digits 12) (number digits 14) (two-digits digits h 14 refl refl) in
@@ -192,7 +192,7 @@ digits-back (Full layout) digits h alone =
     then ap (λ y. y % 10) year-digits ∙ ones digits h 14 refl refl
     then refl)
     ∙ spelled-from 16 0 digits (omega (arith, h .size))
-digits-back (Brief layout) digits h alone =
+digits-back (layouts.TimeOnly layout) digits h alone =
     let none : (slot : ℕ) → usedIn slot (hh ++ mm ++ ss) ≡ false → getD digits slot 0 ≡ 0 =
     λ slot e. alone slot (brief-uses layout slot ∙ e) in
     (sym (none 0 refl)

@@ -15,7 +15,7 @@ use Rattle.record.specs.declared.Record.{Record}
 use Rattle.record.specs.declared.Record.the-variants.{Dated, TimeOnly}
 use Rattle.record.specs.Rule.{tableOf6021}
 use Rattle.layouts.specs.declared.Layout.{Layout}
-use Rattle.layouts.specs.declared.Layout.the-variants.{Full, Brief}
+use Rattle.layouts.specs.declared.Layout.the-variants as layouts
 
 -- "read as four bits b3 to b0"
 abbrev pub b0 : ℕ → Bool
@@ -114,9 +114,9 @@ dateIn layout digits = record { year = yearIn layout digits; month = number digi
 
 -- the record that a layout's digits carry
 abbrev pub recordIn : Layout → List ℕ → Record
-recordIn (Full layout) digits =
+recordIn (layouts.Dated layout) digits =
     Dated layout (statusIn layout (codeAt digits 0) (codeAt digits 1)) (weekdayIn layout (codeAt digits 1)) (dateIn layout digits) (timeIn digits)
-recordIn (Brief layout) digits = TimeOnly layout (timeIn digits)
+recordIn (layouts.TimeOnly layout) digits = TimeOnly layout (timeIn digits)
 
 -- the digits that a record's layout carries, 0 in each slot that it does not use
 abbrev pub digitsOut : Record → List ℕ

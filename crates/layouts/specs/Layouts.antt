@@ -12,7 +12,7 @@ use Rattle.record.specs.declared.Record.{Record}
 use Rattle.record.specs.declared.Record.the-variants.{Dated, TimeOnly}
 use Rattle.layouts.specs.declared.Layout.{Layout}
 use Rattle.layouts.specs.declared.rows.Span.{Span}
-use Rattle.layouts.specs.declared.Layout.the-variants.{Full, Brief}
+use Rattle.layouts.specs.declared.Layout.the-variants as layouts
 
 -- the pieces that the table's rows are made of; a digit's number is its slot
 abbrev pub status : Place
@@ -53,57 +53,57 @@ abbrev pub cr : Place
 cr = fixed 13
 
 -- the table, "between STX and ETX"
-unfoldable pub rowOf : Layout → List Place
-rowOf (Full L6021) = status ∷ weekday ∷ hh ++ mm ++ ss ++ dd ++ mo ++ yy ++ lf ∷ cr ∷ []
-rowOf (Brief T6021) = hh ++ mm ++ ss ++ lf ∷ cr ∷ []
-rowOf (Full L2000) = status ∷ weekday ∷ hh ++ mm ++ ss ++ dd ++ mo ++ yyyy ++ lf ∷ cr ∷ []
-rowOf (Full L5500) = status ∷ space ∷ hh ++ mm ++ ss ++ space ∷ dd ++ mo ++ yy ++ space ∷ weekday ∷ cr ∷ lf ∷ []
-rowOf (Brief T5500) = hh ++ mm ++ ss ++ cr ∷ lf ∷ []
-rowOf (Full L5050) =
+unfoldable pub placesOf : Layout → List Place
+placesOf (layouts.Dated L6021) = status ∷ weekday ∷ hh ++ mm ++ ss ++ dd ++ mo ++ yy ++ lf ∷ cr ∷ []
+placesOf (layouts.TimeOnly T6021) = hh ++ mm ++ ss ++ lf ∷ cr ∷ []
+placesOf (layouts.Dated L2000) = status ∷ weekday ∷ hh ++ mm ++ ss ++ dd ++ mo ++ yyyy ++ lf ∷ cr ∷ []
+placesOf (layouts.Dated L5500) = status ∷ space ∷ hh ++ mm ++ ss ++ space ∷ dd ++ mo ++ yy ++ space ∷ weekday ∷ cr ∷ lf ∷ []
+placesOf (layouts.TimeOnly T5500) = hh ++ mm ++ ss ++ cr ∷ lf ∷ []
+placesOf (layouts.Dated L5050) =
     hh ++ space ∷ mm ++ space ∷ ss ++ space ∷ dd ++ space ∷ mo ++ space ∷ yy ++ space ∷ status ∷ weekday ∷ space ∷ cr ∷ lf ∷ []
-rowOf (Brief T5050) = hh ++ space ∷ mm ++ space ∷ ss ++ space ∷ cr ∷ lf ∷ []
+placesOf (layouts.TimeOnly T5050) = hh ++ space ∷ mm ++ space ∷ ss ++ space ∷ cr ∷ lf ∷ []
 
 -- the rows as the code keeps them: one number a place, one row behind another
 unfoldable pub allRows : List ℕ
 allRows =
     map placeNumber
-    (rowOf (Full L6021)
-    ++ rowOf (Full L2000)
-    ++ rowOf (Full L5500)
-    ++ rowOf (Full L5050)
-    ++ rowOf (Brief T6021)
-    ++ rowOf (Brief T5500)
-    ++ rowOf (Brief T5050))
+    (placesOf (layouts.Dated L6021)
+    ++ placesOf (layouts.Dated L2000)
+    ++ placesOf (layouts.Dated L5500)
+    ++ placesOf (layouts.Dated L5050)
+    ++ placesOf (layouts.TimeOnly T6021)
+    ++ placesOf (layouts.TimeOnly T5500)
+    ++ placesOf (layouts.TimeOnly T5050))
 
 -- where each begins
-abbrev pub startOf : Layout → ℕ
-startOf (Full L6021) = 0
-startOf (Full L2000) = 16
-startOf (Full L5500) = 34
-startOf (Full L5050) = 53
-startOf (Brief T6021) = 76
-startOf (Brief T5500) = 84
-startOf (Brief T5050) = 92
+abbrev pub rowStart : Layout → ℕ
+rowStart (layouts.Dated L6021) = 0
+rowStart (layouts.Dated L2000) = 16
+rowStart (layouts.Dated L5500) = 34
+rowStart (layouts.Dated L5050) = 53
+rowStart (layouts.TimeOnly T6021) = 76
+rowStart (layouts.TimeOnly T5500) = 84
+rowStart (layouts.TimeOnly T5050) = 92
 
 unfoldable pub spanOf : Layout → Span
-spanOf layout = record { start = startOf layout; end = startOf layout + length (rowOf layout) }
+spanOf layout = record { start = rowStart layout; end = rowStart layout + length (placesOf layout) }
 
 -- a record's own layout
 abbrev pub ownLayout : Record → Layout
-ownLayout (Dated layout status weekday date time) = Full layout
-ownLayout (TimeOnly layout time) = Brief layout
+ownLayout (Dated layout status weekday date time) = layouts.Dated layout
+ownLayout (TimeOnly layout time) = layouts.TimeOnly layout
 
 -- "the order of LF and CR decides": LF CR is a 6021t, and anything else is judged as a 5500t, which wants CR LF
 abbrev pub byTrailer : List ℕ → Layout
-byTrailer body = cond (eqb (getD body 6 0) 10 && eqb (getD body 7 0) 13) (Brief T6021) (Brief T5500)
+byTrailer body = cond (eqb (getD body 6 0) 10 && eqb (getD body 7 0) 13) (layouts.TimeOnly T6021) (layouts.TimeOnly T5500)
 
 -- "the layout is found from the length", here without STX and ETX; 1: "length isn't one in the table"
 unfoldable pub layoutOf : List ℕ → Outcome Layout
 layoutOf body =
-    cond (eqb (length body) 16) (done (Full L6021))
+    cond (eqb (length body) 16) (done (layouts.Dated L6021))
     (cond (eqb (length body) 8) (done (byTrailer body))
-    (cond (eqb (length body) 18) (done (Full L2000))
-    (cond (eqb (length body) 19) (done (Full L5500))
-    (cond (eqb (length body) 23) (done (Full L5050))
-    (cond (eqb (length body) 11) (done (Brief T5050))
+    (cond (eqb (length body) 18) (done (layouts.Dated L2000))
+    (cond (eqb (length body) 19) (done (layouts.Dated L5500))
+    (cond (eqb (length body) 23) (done (layouts.Dated L5050))
+    (cond (eqb (length body) 11) (done (layouts.TimeOnly T5050))
     (refused 1))))))

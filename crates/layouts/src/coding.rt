@@ -194,7 +194,7 @@ pub fn record_in(layout: Layout, digits: [u8; 16]) -> Record
     let weekday = digits[1] % 16;
     let time = time_in(digits);
     match layout {
-        Layout::Full(dated) => {
+        Layout::Dated(dated) => {
             let date = date_in(dated, digits);
             Record::Dated(
                 dated,
@@ -204,7 +204,7 @@ pub fn record_in(layout: Layout, digits: [u8; 16]) -> Record
                 time,
             )
         }
-        Layout::Brief(brief) => Record::TimeOnly(brief, time),
+        Layout::TimeOnly(brief) => Record::TimeOnly(brief, time),
     }
 }
 

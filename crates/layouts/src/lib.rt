@@ -7,6 +7,6 @@ use record::TimeLayout;
 
 // Four layouts with a date, three with the time alone.
 pub enum Layout {
-    Full(DatedLayout),
-    Brief(TimeLayout),
+    Dated(DatedLayout),
+    TimeOnly(TimeLayout),
 }

@@ -181,13 +181,13 @@ pub fn span_of(layout: Layout) -> Span
     ensures { λ r. ⌜ r ≡ spanOf layout ⌝ }
 {
     match layout {
-        Layout::Full(dated) => match dated {
+        Layout::Dated(dated) => match dated {
             DatedLayout::L6021 => Span { start: 0, end: 16 },
             DatedLayout::L2000 => Span { start: 16, end: 34 },
             DatedLayout::L5500 => Span { start: 34, end: 53 },
             DatedLayout::L5050 => Span { start: 53, end: 76 },
         },
-        Layout::Brief(brief) => match brief {
+        Layout::TimeOnly(brief) => match brief {
             TimeLayout::T6021 => Span { start: 76, end: 84 },
             TimeLayout::T5500 => Span { start: 84, end: 92 },
             TimeLayout::T5050 => Span {
@@ -203,27 +203,27 @@ fn by_trailer(body: &[u8]) -> Layout
     ensures { λ r. ⌜ r ≡ byTrailer (now (body .entry)) ⌝ }
 {
     if body.len() < 8 {
-        return Layout::Brief(TimeLayout::T5500);
+        return Layout::TimeOnly(TimeLayout::T5500);
     }
     if body[6] != LF {
-        return Layout::Brief(TimeLayout::T5500);
+        return Layout::TimeOnly(TimeLayout::T5500);
     }
     if body[7] != CR {
-        return Layout::Brief(TimeLayout::T5500);
+        return Layout::TimeOnly(TimeLayout::T5500);
     }
-    Layout::Brief(TimeLayout::T6021)
+    Layout::TimeOnly(TimeLayout::T6021)
 }
 
 pub fn layout_of(body: &[u8]) -> LayoutAnswer
     ensures { λ r. ⌜ layoutAnswer r ≡ layoutOf (now (body .entry)) ⌝ }
 {
     match body.len() {
-        16 => LayoutAnswer::Found(Layout::Full(DatedLayout::L6021)),
+        16 => LayoutAnswer::Found(Layout::Dated(DatedLayout::L6021)),
         8 => LayoutAnswer::Found(by_trailer(body)),
-        18 => LayoutAnswer::Found(Layout::Full(DatedLayout::L2000)),
-        19 => LayoutAnswer::Found(Layout::Full(DatedLayout::L5500)),
-        23 => LayoutAnswer::Found(Layout::Full(DatedLayout::L5050)),
-        11 => LayoutAnswer::Found(Layout::Brief(TimeLayout::T5050)),
+        18 => LayoutAnswer::Found(Layout::Dated(DatedLayout::L2000)),
+        19 => LayoutAnswer::Found(Layout::Dated(DatedLayout::L5500)),
+        23 => LayoutAnswer::Found(Layout::Dated(DatedLayout::L5050)),
+        11 => LayoutAnswer::Found(Layout::TimeOnly(TimeLayout::T5050)),
         _ => LayoutAnswer::Refused(LENGTH),
     }
 }

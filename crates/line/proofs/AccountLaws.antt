@@ -12,7 +12,7 @@ use Rattle.refusals.specs.Refusals.{refused}
 use Rattle.telegram.specs.Reading.{readOf}
 use Rattle.line.specs.Line.{Line, nothing, event, heldAfter, toldBy, strayBy, step, freshLine, readerOf, ended, toldByEnd}
 use Rattle.line.specs.Cuts.{lineAfter}
-use Rattle.line.specs.Account.{sizeOf, lengthsOf, straysOf}
+use Rattle.line.specs.Account.{eventSize, lengthsOf, straysOf}
 use Rattle.line.proofs.StaysGood.{Good, good-step}
 use Rattle.line.proofs.CutLaws.{good-fresh}
 
@@ -23,7 +23,7 @@ begins false = refl
 
 goes-on : (held : List ℕ) (byte : ℕ) (etx stx full : Bool) → leb 24 (length held) ≡ full → length held ≤ 24
     → length held + 1
-    ≡ sizeOf (cond etx (event (readOf true (held ++ 3 ∷ [])) (length held + 1)) (cond stx (event (refused 9) (length held)) (cond full (event (refused 10) 25) nothing)))
+    ≡ eventSize (cond etx (event (readOf true (held ++ 3 ∷ [])) (length held + 1)) (cond stx (event (refused 9) (length held)) (cond full (event (refused 10) 25) nothing)))
     + 0
     + length (cond etx [] (cond stx (2 ∷ []) (cond full [] (held ++ byte ∷ []))))
 goes-on held byte true stx full e fits = omega arith
@@ -32,7 +32,7 @@ goes-on held byte false false true e fits = omega (arith, leb-true 24 (length he
 goes-on held byte false false false e fits = omega (arith, length-append held (byte ∷ []))
 
 pub byte-account : (held : List ℕ) (byte : ℕ) → length held ≤ 24
-    → length held + 1 ≡ sizeOf (toldBy held byte) + strayBy held byte + length (heldAfter held byte)
+    → length held + 1 ≡ eventSize (toldBy held byte) + strayBy held byte + length (heldAfter held byte)
 byte-account [] byte fits = begins (eqb byte 2)
 byte-account (first ∷ held) byte fits = goes-on (first ∷ held) byte (eqb byte 3) (eqb byte 2) (leb 24 (length (first ∷ held))) refl fits
 
@@ -75,12 +75,12 @@ module _ (bytes : List ℕ) where
   fresh-account = fed-is-all ∙ ap (λ n. n % 2 ^ 32) sum
 
   -- and after the end of the line, whose event has the bytes held
-  end-size : (held : List ℕ) → sizeOf (toldByEnd held) ≡ length held
+  end-size : (held : List ℕ) → eventSize (toldByEnd held) ≡ length held
   end-size [] = refl
   end-size (first ∷ held) = refl
 
-  pub ended-account : readerOf (ended line) .fed ≡ (lengthsOf freshLine bytes + sizeOf (toldByEnd (line .held)) + straysOf freshLine bytes + readerOf (ended line) .len) % 2 ^ 32
+  pub ended-account : readerOf (ended line) .fed ≡ (lengthsOf freshLine bytes + eventSize (toldByEnd (line .held)) + straysOf freshLine bytes + readerOf (ended line) .len) % 2 ^ 32
   ended-account =
       let same : lengthsOf freshLine bytes + straysOf freshLine bytes + length (line .held)
-      ≡ lengthsOf freshLine bytes + sizeOf (toldByEnd (line .held)) + straysOf freshLine bytes + 0 = omega (arith, end-size (line .held)) in
+      ≡ lengthsOf freshLine bytes + eventSize (toldByEnd (line .held)) + straysOf freshLine bytes + 0 = omega (arith, end-size (line .held)) in
       fresh-account ∙ ap (λ n. n % 2 ^ 32) same

@@ -11,7 +11,7 @@ use Rattle.line.specs.declared.Reader.{Reader}
 use Rattle.line.specs.declared.Fed.{Fed}
 use Rattle.line.specs.declared.Heard.{Heard}
 use Rattle.line.specs.Line.{Line, Told, nothing, event, Feeding, stopOr, feedOf, toldBy, step, startOf, readerOf, heardFor, fedFor, freshLine, freshReader}
-use Rattle.line.specs.Cuts.{tells, eventsOf, lineAfter, Calls, heardThen, calls, Served, joined, heardFrom, readerAfter, UsedUp}
+use Rattle.line.specs.Cuts.{tells, eventsOf, lineAfter, Calls, heardThen, calls, Served, bytesServed, heardFrom, readerAfter, UsedUp}
 use Rattle.line.proofs.Wraps.{feed-reader}
 use Rattle.line.proofs.StaysGood.{Good, good-step, good-feed}
 
@@ -75,7 +75,7 @@ good-after line [] good = good
 good-after line (byte ∷ piece) good = good-after (step line byte) piece (good-step line byte good)
 
 pub cut-anywhere : (served : List Served) (line : Line) (reader : Reader) → Good line → reader ≡ readerOf line → UsedUp reader served
-    → (heardFrom reader served ≡ eventsOf line (joined served)) × (readerAfter reader served ≡ readerOf (lineAfter line (joined served)))
+    → (heardFrom reader served ≡ eventsOf line (bytesServed served)) × (readerAfter reader served ≡ readerOf (lineAfter line (bytesServed served)))
 cut-anywhere [] line reader good is used = (refl, is)
 cut-anywhere (served ∷ others) line reader good is used =
     let over = ap (λ r. calls (served .times) r (served .piece) .rest) (sym is) ∙ used .0 in
@@ -83,12 +83,12 @@ cut-anywhere (served ∷ others) line reader good is used =
     let next = ap (λ r. calls (served .times) r (served .piece) .reader) is ∙ here .1 in
     let heard = ap (λ r. calls (served .times) r (served .piece) .heard) is ∙ here .0 in
     let on = cut-anywhere others (lineAfter line (served .piece)) (calls (served .times) reader (served .piece) .reader) (good-after line (served .piece) good) next (used .1) in (
-      ap₂ _++_ heard (on .0) ∙ sym (events-join line (served .piece) (joined others)),
-      on .1 ∙ ap readerOf (sym (after-join line (served .piece) (joined others))),
+      ap₂ _++_ heard (on .0) ∙ sym (events-join line (served .piece) (bytesServed others)),
+      on .1 ∙ ap readerOf (sym (after-join line (served .piece) (bytesServed others))),
     )
 
 -- two cuts of one line, fed to one reader, tell the same and leave the same reader
-pub cut-independence : (a b : List Served) (line : Line) → Good line → joined a ≡ joined b → UsedUp (readerOf line) a → UsedUp (readerOf line) b
+pub cut-independence : (a b : List Served) (line : Line) → Good line → bytesServed a ≡ bytesServed b → UsedUp (readerOf line) a → UsedUp (readerOf line) b
     → (heardFrom (readerOf line) a ≡ heardFrom (readerOf line) b) × (readerAfter (readerOf line) a ≡ readerAfter (readerOf line) b)
 cut-independence a b line good same used-a used-b =
     let of-a = cut-anywhere a line (readerOf line) good refl used-a in

@@ -12,4 +12,4 @@ pub mod CutLaws
 pub mod UsesUp
 pub mod AccountLaws
 pub mod SentLaws
-pub mod DemandLaws
+pub mod HandsBack

@@ -13,14 +13,14 @@ use Rattle.places.specs.Places.{Place, fixed, decimal, code, codeCharacter, byt
 use Rattle.places.proofs.Rows.{soundPlace, sound}
 use Rattle.places.proofs.Rendering.{length-render}
 use Rattle.record.specs.declared.Record.{Record}
-use Rattle.layouts.specs.Layouts.{rowOf, ownLayout}
+use Rattle.layouts.specs.Layouts.{placesOf, ownLayout}
 use Rattle.layouts.specs.Coding.{digitsOut}
 use Rattle.layouts.proofs.RowLaws.{row-sound, row-length}
 use Rattle.telegram.specs.Writing.{bodyBytes}
 use Rattle.line.specs.declared.Heard.{Heard}
 use Rattle.line.specs.Line.{Line, isPlain, allPlain}
 use Rattle.line.specs.Cuts.{eventsOf, lineAfter}
-use Rattle.line.specs.Demand.{noStx}
+use Rattle.line.specs.SentLine.{noStx}
 use Rattle.line.proofs.FeedLaws.{inside, outside}
 
 -- characters are plain
@@ -48,11 +48,11 @@ plain-row (p ∷ row) digits s =
 
 pub plain-body : (rec : Record) → allPlain (bodyBytes rec) ≡ true
 unfolding bodyBytes render
-plain-body rec = plain-row (rowOf (ownLayout rec)) (digitsOut rec) (row-sound (ownLayout rec))
+plain-body rec = plain-row (placesOf (ownLayout rec)) (digitsOut rec) (row-sound (ownLayout rec))
 
 pub body-fits : (rec : Record) → length (bodyBytes rec) ≤ 23
 unfolding bodyBytes
-body-fits rec = omega (arith, length-render (rowOf (ownLayout rec)) (digitsOut rec), row-length (ownLayout rec) .1)
+body-fits rec = omega (arith, length-render (placesOf (ownLayout rec)) (digitsOut rec), row-length (ownLayout rec) .1)
 
 -- strays
 abbrev pub Gives : Line → List ℕ → List Heard → Line → Type 0

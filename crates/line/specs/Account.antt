@@ -4,14 +4,14 @@ use Prim.Native.Nat.{ℕ, _+_}
 use Rattle.line.specs.Line.{Line, Told, nothing, event, toldBy, strayBy, step}
 
 -- the bytes of an event
-abbrev pub sizeOf : Told → ℕ
-sizeOf nothing = 0
-sizeOf (event outcome size) = size
+abbrev pub eventSize : Told → ℕ
+eventSize nothing = 0
+eventSize (event outcome size) = size
 
 -- the lengths of all events, and the number of stray bytes
 abbrev pub lengthsOf : Line → List ℕ → ℕ
 lengthsOf line [] = 0
-lengthsOf line (byte ∷ bytes) = sizeOf (toldBy (line .held) byte) + lengthsOf (step line byte) bytes
+lengthsOf line (byte ∷ bytes) = eventSize (toldBy (line .held) byte) + lengthsOf (step line byte) bytes
 
 abbrev pub straysOf : Line → List ℕ → ℕ
 straysOf line [] = 0

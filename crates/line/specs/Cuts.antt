@@ -49,9 +49,9 @@ pub record Served : Type 0 where
   pub piece : List ℕ
   pub times : ℕ
 
-abbrev pub joined : List Served → List ℕ
-joined [] = []
-joined (served ∷ others) = served .piece ++ joined others
+abbrev pub bytesServed : List Served → List ℕ
+bytesServed [] = []
+bytesServed (served ∷ others) = served .piece ++ bytesServed others
 
 abbrev pub heardOf : (Reader → List ℕ → Fed) → Reader → List Served → List Heard
 heardOf feed reader [] = []

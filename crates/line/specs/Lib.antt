@@ -3,4 +3,4 @@ pub mod Runs
 pub mod Pieces
 pub mod Cuts
 pub mod Account
-pub mod Demand
+pub mod SentLine

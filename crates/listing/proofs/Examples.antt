@@ -16,7 +16,7 @@ use Rattle.calendar.specs.TimeOfDay.{timeInRange, timeRefusal}
 use Rattle.record.specs.Rule.{statusAllowed, weekdayAllowed, weekdayAgrees, datedRefusal}
 use Rattle.listing.specs.Ascii.{ascii}
 use Rattle.listing.specs.Decimals.{decimalWithin, decimal}
-use Rattle.listing.specs.Listing.{statusColumn, datedRow, timeRow, refusedRow, recordRow, rowOf, strayRow, laid}
+use Rattle.listing.specs.Listing.{statusColumn, datedRow, timeRow, refusedRow, recordRow, eventRow, strayRow, laid}
 
 abbrev pub noon : Time
 noon = record { hour = 12; minute = 34; second = 56 }
@@ -25,17 +25,17 @@ abbrev pub april : Date
 april = record { year = 1996; month = 4; day = 17 }
 
 -- "1;6021;1996-04-17;12:34:56;3;high,daylight"
-pub printed-row : rowOf 1 (Good (Dated L6021 (record { reception = High; daylight = true; utc = false; announced = false }) 3 april noon))
+pub printed-row : eventRow 1 (Good (Dated L6021 (record { reception = High; daylight = true; utc = false; announced = false }) 3 april noon))
     ≡ done (ascii "1;6021;1996-04-17;12:34:56;3;high,daylight\n")
 unfolding decimal decimalWithin statusColumn datedRow unless datedRefusal statusAllowed weekdayAllowed weekdayAgrees timeInRange dateInRange monthInRange dayExists monthLength isLeap dayOf monthStart
 printed-row = refl
 
 -- the same on a Thursday has no row
-pub wrong-weekday : rowOf 1 (Good (Dated L6021 (record { reception = High; daylight = true; utc = false; announced = false }) 4 april noon)) ≡ refused 8
+pub wrong-weekday : eventRow 1 (Good (Dated L6021 (record { reception = High; daylight = true; utc = false; announced = false }) 4 april noon)) ≡ refused 8
 unfolding unless datedRefusal statusAllowed weekdayAllowed weekdayAgrees timeInRange dateInRange monthInRange dayExists monthLength isLeap dayOf monthStart
 wrong-weekday = refl
 
-pub printed-refusal : rowOf 19 (Refused 11) ≡ done (ascii "19;refused 11\n")
+pub printed-refusal : eventRow 19 (Refused 11) ≡ done (ascii "19;refused 11\n")
 unfolding decimal decimalWithin refusedRow
 printed-refusal = refl
 
@@ -49,7 +49,7 @@ unfolding decimal decimalWithin strayRow
 stray-none = refl
 
 -- "a time-only line has `-` for date, weekday and status"
-pub time-only : rowOf 30 (Good (TimeOnly T6021 noon)) ≡ done (ascii "30;6021t;-;12:34:56;-;-\n")
+pub time-only : eventRow 30 (Good (TimeOnly T6021 noon)) ≡ done (ascii "30;6021t;-;12:34:56;-;-\n")
 unfolding decimal decimalWithin timeRow unless timeRefusal timeInRange
 time-only = refl
 

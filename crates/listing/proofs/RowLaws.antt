@@ -23,7 +23,7 @@ use Rattle.record.specs.declared.RecordAnswer.the-variants as answer
 use Rattle.record.specs.Rule.{refusalOf}
 use Rattle.listing.specs.Ascii.{ascii}
 use Rattle.listing.specs.Decimals.{decimal}
-use Rattle.listing.specs.Listing.{headerRow, datedKind, timeKind, receptionWord, seasonWord, statusColumn, datedRow, timeRow, recordRow, refusedRow, rowOf, strayRow, laid}
+use Rattle.listing.specs.Listing.{headerRow, datedKind, timeKind, receptionWord, seasonWord, statusColumn, datedRow, timeRow, recordRow, refusedRow, eventRow, strayRow, laid}
 use Rattle.listing.proofs.DecimalLaws.{few-digits}
 
 dated-kind-length : (layout : DatedLayout) → length (datedKind layout) ≡ 4
@@ -90,12 +90,12 @@ module _ (start : ℕ) (counted : start < 2 ^ 32) where
 
 -- a record that the rule refuses has no row
 pub rule-refuses : (start : ℕ) (rec : Record) (out : List ℕ) (n : ℕ) → n ≡ refusalOf rec → (n ≡ 0 → ⊥)
-    → laid (rowOf start (answer.Good rec)) out ≡ (refused n, out)
+    → laid (eventRow start (answer.Good rec)) out ≡ (refused n, out)
 unfolding laid
 rule-refuses start rec out n e some = rw (← refuses (recordRow start rec) e some)
 
 -- and any other has the row of its layout
 pub rule-passes : (start : ℕ) (outcome : RecordAnswer) (rec same : Record) (n : ℕ) → outcome ≡ answer.Good rec → rec ≡ same
-    → n ≡ refusalOf rec → n ≡ 0 → rowOf start outcome ≡ done (recordRow start same)
+    → n ≡ refusalOf rec → n ≡ 0 → eventRow start outcome ≡ done (recordRow start same)
 rule-passes start outcome rec same n told is e none =
-    ap (rowOf start) told ∙ does (recordRow start rec) (sym e ∙ none) ∙ ap (λ r. done (recordRow start r)) is
+    ap (eventRow start) told ∙ does (recordRow start rec) (sym e ∙ none) ∙ ap (λ r. done (recordRow start r)) is

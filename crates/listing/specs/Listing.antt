@@ -89,9 +89,9 @@ unfoldable pub refusedRow : ℕ → ℕ → List ℕ
 refusedRow start number = decimal start ++ ascii ";refused " ++ decimal number ++ ascii "\n"
 
 -- the row of an event. What no telegram could say has no row: 5 to 8
-abbrev pub rowOf : ℕ → RecordAnswer → Outcome (List ℕ)
-rowOf start (answer.Good rec) = unless (refusalOf rec) (recordRow start rec)
-rowOf start (answer.Refused number) = done (refusedRow start number)
+abbrev pub eventRow : ℕ → RecordAnswer → Outcome (List ℕ)
+eventRow start (answer.Good rec) = unless (refusalOf rec) (recordRow start rec)
+eventRow start (answer.Refused number) = done (refusedRow start number)
 
 -- as in "stray 1", the last line of the listing
 unfoldable pub strayRow : ℕ → List ℕ

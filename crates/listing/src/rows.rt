@@ -13,7 +13,7 @@ use record::TimeLayout;
 use refusals::NONE;
 ghost use mathlib.Core.Path.{_≡_};
 ghost use Rattle.refusals.specs.Refusals.{done};
-ghost use Rattle.listing.specs.Listing.{headerRow, datedKind, timeKind, dateColumn, timeColumn, receptionWord, seasonWord, statusColumn, datedRow, timeRow, refusedRow, rowOf, strayRow, laid};
+ghost use Rattle.listing.specs.Listing.{headerRow, datedKind, timeKind, dateColumn, timeColumn, receptionWord, seasonWord, statusColumn, datedRow, timeRow, refusedRow, eventRow, strayRow, laid};
 ghost use Rattle.listing.specs.Texts.{emptyText, appended};
 ghost use Rattle.listing.specs.Answers.{rowAnswer};
 
@@ -139,7 +139,7 @@ pub fn header(out: &mut [u8]) -> RowAnswer
 
 // The row of an event: where it starts, and the record that was read or the number that it was refused with.
 pub fn row(start: u32, answer: RecordAnswer, out: &mut [u8]) -> RowAnswer
-    ensures { λ r. ⌜ laid (rowOf start answer) (now (out .entry)) ≡ (rowAnswer r, now (out .exit)) ⌝ }
+    ensures { λ r. ⌜ laid (eventRow start answer) (now (out .entry)) ≡ (rowAnswer r, now (out .exit)) ⌝ }
 {
     match answer {
         RecordAnswer::Refused(number) => refused_row(start, number).lay(out),

@@ -8,13 +8,13 @@ use Rattle.refusals.specs.Refusals.{Outcome, done, refused}
 use Rattle.line.specs.declared.Heard.{Heard}
 use Rattle.line.specs.declared.Heard.the-variants.{Nothing, Event, Refused}
 use Rattle.line.specs.declared.pieces.Slot.{Slot}
-use Rattle.listing.specs.Listing.{rowOf}
+use Rattle.listing.specs.Listing.{eventRow}
 use Rattle.pages.specs.declared.Page.{Page}
 
 -- the row of what was heard: an event has one, nothing has none, and a refused state has its number
 abbrev pub rowFor : Heard → Outcome (List ℕ)
 rowFor Nothing = done []
-rowFor (Event answer start size) = rowOf start answer
+rowFor (Event answer start size) = eventRow start answer
 rowFor (Refused number) = refused number
 
 -- what the first slots hold

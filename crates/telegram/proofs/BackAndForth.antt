@@ -13,7 +13,7 @@ use Rattle.places.proofs.RoundTrip.{fixed-rendered, decimals-rendered, codes-re
 use Rattle.record.specs.declared.Record.{Record}
 use Rattle.record.specs.Rule.{refusalOf}
 use Rattle.layouts.specs.declared.Layout.{Layout}
-use Rattle.layouts.specs.Layouts.{rowOf, ownLayout, layoutOf}
+use Rattle.layouts.specs.Layouts.{placesOf, ownLayout, layoutOf}
 use Rattle.layouts.specs.Coding.{recordIn, digitsOut}
 use Rattle.layouts.proofs.RowLaws.{row-distinct, row-sound, row-length, row-fits, found-again}
 use Rattle.layouts.proofs.Carried.{own-layout, record-back, digits-held, digits-idle, digits-back}
@@ -27,20 +27,20 @@ module _ (rec : Record) (none : refusalOf rec ≡ 0) where
   body-layout : layoutOf (bodyBytes rec) ≡ done (ownLayout rec)
   unfolding bodyBytes
   body-layout =
-      found-again (ownLayout rec) (bodyBytes rec) (length-body rec) (fixed-rendered (rowOf (ownLayout rec)) (digitsOut rec))
+      found-again (ownLayout rec) (bodyBytes rec) (length-body rec) (fixed-rendered (placesOf (ownLayout rec)) (digitsOut rec))
 
   body-carries : carried (ownLayout rec) (bodyBytes rec) ≡ rec
   unfolding carried bodyBytes
   body-carries =
-      ap (recordIn (ownLayout rec)) (reads-back (rowOf (ownLayout rec)) (digitsOut rec) (digits-held rec none) (row-sound (ownLayout rec)) (digits-idle rec))
+      ap (recordIn (ownLayout rec)) (reads-back (placesOf (ownLayout rec)) (digitsOut rec) (digits-held rec none) (row-sound (ownLayout rec)) (digits-idle rec))
       ∙ record-back rec none
 
-  body-fits : (every fixedHolds (rowOf (ownLayout rec)) (bodyBytes rec) ≡ true)
-      × (every decimalHolds (rowOf (ownLayout rec)) (bodyBytes rec) ≡ true)
-      × (every codeHolds (rowOf (ownLayout rec)) (bodyBytes rec) ≡ true)
+  body-fits : (every fixedHolds (placesOf (ownLayout rec)) (bodyBytes rec) ≡ true)
+      × (every decimalHolds (placesOf (ownLayout rec)) (bodyBytes rec) ≡ true)
+      × (every codeHolds (placesOf (ownLayout rec)) (bodyBytes rec) ≡ true)
   unfolding bodyBytes
   body-fits =
-      (fixed-rendered (rowOf (ownLayout rec)) (digitsOut rec), decimals-rendered (rowOf (ownLayout rec)) (digitsOut rec) (digits-held rec none) (row-sound (ownLayout rec)), codes-rendered (rowOf (ownLayout rec)) (digitsOut rec))
+      (fixed-rendered (placesOf (ownLayout rec)) (digitsOut rec), decimals-rendered (placesOf (ownLayout rec)) (digitsOut rec) (digits-held rec none) (row-sound (ownLayout rec)), codes-rendered (placesOf (ownLayout rec)) (digitsOut rec))
 
   body-good : bodyRefusal (ownLayout rec) (bodyBytes rec) ≡ 0
   unfolding bodyRefusal
@@ -61,32 +61,32 @@ module _ (rec : Record) (none : refusalOf rec ≡ 0) where
       rw (telegram-body control, body-layout, telegram-framed control) (does _ body-good ∙ ap done body-carries)
 
 -- A body that reads as a good record is what that record's body is.
-module _ (layout : Layout) (body : List ℕ) (same : length body ≡ length (rowOf layout)) (good : bodyRefusal layout body ≡ 0) where
-  tests : (every fixedHolds (rowOf layout) body ≡ true) × (every decimalHolds (rowOf layout) body ≡ true)
-      × (every codeHolds (rowOf layout) body ≡ true) × (refusalOf (carried layout body) ≡ 0)
+module _ (layout : Layout) (body : List ℕ) (same : length body ≡ length (placesOf layout)) (good : bodyRefusal layout body ≡ 0) where
+  tests : (every fixedHolds (placesOf layout) body ≡ true) × (every decimalHolds (placesOf layout) body ≡ true)
+      × (every codeHolds (placesOf layout) body ≡ true) × (refusalOf (carried layout body) ≡ 0)
   unfolding bodyRefusal
   tests =
-      let row = else-none (rowFault (rowOf layout) body) _ good in
-      let three = else-none (3 when not (every fixedHolds (rowOf layout) body)) _ (row .0) in
-      let four = else-none (4 when not (every decimalHolds (rowOf layout) body)) _ (three .1) in
+      let row = else-none (rowFault (placesOf layout) body) _ good in
+      let three = else-none (3 when not (every fixedHolds (placesOf layout) body)) _ (row .0) in
+      let four = else-none (4 when not (every decimalHolds (placesOf layout) body)) _ (three .1) in
       (not-false _ (when-none 2 _ (three .0)), not-false _ (when-none 3 _ (four .0)), not-false _ (when-none 4 _ (four .1)), row .1)
 
-  digits-again : digitsOut (carried layout body) ≡ gather (rowOf layout) body noDigits
+  digits-again : digitsOut (carried layout body) ≡ gather (placesOf layout) body noDigits
   unfolding carried
   digits-again =
-      digits-back layout (gather (rowOf layout) body noDigits)
-      (held-gather (rowOf layout) body noDigits (row-sound layout) (tests .1) (tests .2) held-none)
-      (λ slot idle. gather-outside (rowOf layout) body noDigits slot idle (row-sound layout) refl ∙ no-digit 16 slot)
+      digits-back layout (gather (placesOf layout) body noDigits)
+      (held-gather (placesOf layout) body noDigits (row-sound layout) (tests .1) (tests .2) held-none)
+      (λ slot idle. gather-outside (placesOf layout) body noDigits slot idle (row-sound layout) refl ∙ no-digit 16 slot)
 
   layout-again : ownLayout (carried layout body) ≡ layout
   unfolding carried
-  layout-again = own-layout layout (gather (rowOf layout) body noDigits)
+  layout-again = own-layout layout (gather (placesOf layout) body noDigits)
 
   body-again : bodyBytes (carried layout body) ≡ body
   unfolding bodyBytes
   body-again =
-      ap₂ (λ l d. render (rowOf l) d) layout-again digits-again
-      ∙ makes-again (rowOf layout) body noDigits (row-distinct layout) (row-sound layout) same refl (tests .0) (tests .1) (tests .2)
+      ap₂ (λ l d. render (placesOf l) d) layout-again digits-again
+      ∙ makes-again (placesOf layout) body noDigits (row-distinct layout) (row-sound layout) same refl (tests .0) (tests .1) (tests .2)
 
 -- (b) what the reader accepts is what the writer makes of the record it gave, and that record is good
 pub record Accepted (control : Bool) (bytes : List ℕ) (rec : Record) : Type 0 where

@@ -3,5 +3,5 @@ pub mod WriteLaws
 pub mod SeveralLaws
 pub mod Frames
 pub mod BackAndForth
-pub mod Demand
+pub mod ReadsBack
 pub mod Whole

@@ -12,18 +12,18 @@ use Rattle.places.specs.declared.Found.{Found}
 use Rattle.record.specs.Rule.{refusalOf}
 use Rattle.layouts.specs.declared.Layout.{Layout}
 use Rattle.layouts.specs.declared.rows.Span.{Span}
-use Rattle.layouts.specs.Layouts.{rowOf, allRows, spanOf, layoutOf}
+use Rattle.layouts.specs.Layouts.{placesOf, allRows, spanOf, layoutOf}
 use Rattle.layouts.specs.Coding.{recordIn}
 use Rattle.layouts.proofs.RowLaws.{span-row}
 use Rattle.telegram.specs.Reading.{bodyOf, framed, carried, bodyRefusal, readBodyAs, readOf}
 
 -- what a scan by the kept rows finds is what the table's row says
 pub seen : (found : Found) (layout : Layout) (span : Span) (rows body : List ℕ) → span ≡ spanOf layout → rows ≡ allRows
-    → found ≡ foundIn (map place (take (span .end - span .start) (drop (span .start) rows))) body → found ≡ foundIn (rowOf layout) body
+    → found ≡ foundIn (map place (take (span .end - span .start) (drop (span .start) rows))) body → found ≡ foundIn (placesOf layout) body
 seen found layout span rows body marks kept e = e ∙ ap (λ r. foundIn r body) (span-row layout span marks rows kept)
 
-module _ (found : Found) (layout : Layout) (body : List ℕ) (e : found ≡ foundIn (rowOf layout) body) where
-  fault-is : found .fault ≡ rowFault (rowOf layout) body
+module _ (found : Found) (layout : Layout) (body : List ℕ) (e : found ≡ foundIn (placesOf layout) body) where
+  fault-is : found .fault ≡ rowFault (placesOf layout) body
   unfolding foundIn
   fault-is = ap (λ f. f .fault) e
 

@@ -19,16 +19,16 @@ use Rattle.record.specs.declared.Record.the-variants.{Dated, TimeOnly}
 use Rattle.record.specs.Rule.{refusalOf}
 use Rattle.record.specs.Next.{recordAfter, nextSecondOf}
 use Rattle.layouts.specs.declared.rows.Span.{Span}
-use Rattle.layouts.specs.Layouts.{rowOf, allRows, spanOf, ownLayout}
+use Rattle.layouts.specs.Layouts.{placesOf, allRows, spanOf, ownLayout}
 use Rattle.layouts.specs.Coding.{digitsOut}
 use Rattle.layouts.proofs.RowLaws.{span-row, span-ends, row-length}
 use Rattle.telegram.specs.Writing.{bodyBytes, telegramOf, judgedOf, as6021, recordToWrite, controlOf, laid, written}
 use Rattle.telegram.specs.declared.write.Choice.{Choice}
 use Rattle.telegram.specs.declared.write.Choice.the-variants.{Named, Unnamed}
 
-pub length-body : (rec : Record) → length (bodyBytes rec) ≡ length (rowOf (ownLayout rec))
+pub length-body : (rec : Record) → length (bodyBytes rec) ≡ length (placesOf (ownLayout rec))
 unfolding bodyBytes
-length-body rec = length-render (rowOf (ownLayout rec)) (digitsOut rec)
+length-body rec = length-render (placesOf (ownLayout rec)) (digitsOut rec)
 
 pub length-framed : (rec : Record) → length (telegramOf true rec) ≡ length (bodyBytes rec) + 2
 length-framed rec = omega (arith, length-append (bodyBytes rec) (3 ∷ []))

@@ -9,7 +9,7 @@ use Rattle.places.specs.Places.{gather, rowFault, noDigits}
 use Rattle.record.specs.declared.Record.{Record}
 use Rattle.record.specs.Rule.{refusalOf}
 use Rattle.layouts.specs.declared.Layout.{Layout}
-use Rattle.layouts.specs.Layouts.{rowOf, layoutOf}
+use Rattle.layouts.specs.Layouts.{placesOf, layoutOf}
 use Rattle.layouts.specs.Coding.{recordIn}
 
 -- "lengths include STX and ETX. Without control characters both are missing": what stands between them
@@ -22,11 +22,11 @@ framed bytes = eqb (getD bytes 0 0) 2 && eqb (getD bytes (length bytes - 1) 0) 3
 
 -- the record that a body carries in a layout, right or wrong
 unfoldable pub carried : Layout → List ℕ → Record
-carried layout body = recordIn layout (gather (rowOf layout) body noDigits)
+carried layout body = recordIn layout (gather (placesOf layout) body noDigits)
 
 -- 3 to 5 over all places of the row, then the record's own 5 to 8
 unfoldable pub bodyRefusal : Layout → List ℕ → ℕ
-bodyRefusal layout body = rowFault (rowOf layout) body else refusalOf (carried layout body)
+bodyRefusal layout body = rowFault (placesOf layout) body else refusalOf (carried layout body)
 
 -- the body of a telegram whose layout is known
 unfoldable pub readBodyAs : Layout → List ℕ → Outcome Record

@@ -14,12 +14,12 @@ use Rattle.record.specs.Next.{nextSecondOf}
 use Rattle.telegram.specs.declared.write.Choice.{Choice}
 use Rattle.telegram.specs.declared.write.Choice.the-variants.{Named, Unnamed}
 use Rattle.telegram.specs.declared.several.Several.{Several}
-use Rattle.layouts.specs.Layouts.{rowOf, ownLayout}
+use Rattle.layouts.specs.Layouts.{placesOf, ownLayout}
 use Rattle.layouts.specs.Coding.{digitsOut}
 
 -- the bytes of a record in its own layout, between STX and ETX
 unfoldable pub bodyBytes : Record → List ℕ
-bodyBytes rec = render (rowOf (ownLayout rec)) (digitsOut rec)
+bodyBytes rec = render (placesOf (ownLayout rec)) (digitsOut rec)
 
 -- "STX and ETX. Without control characters both are missing"
 abbrev pub telegramOf : Bool → Record → List ℕ

@@ -37,8 +37,8 @@ fn own_layout(rec: Record) -> Layout
     ensures { λ r. ⌜ r ≡ ownLayout rec ⌝ }
 {
     match rec {
-        Record::Dated(layout, _, _, _, _) => Layout::Full(layout),
-        Record::TimeOnly(layout, _) => Layout::Brief(layout),
+        Record::Dated(layout, _, _, _, _) => Layout::Dated(layout),
+        Record::TimeOnly(layout, _) => Layout::TimeOnly(layout),
     }
 }
 

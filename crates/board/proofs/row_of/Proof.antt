@@ -4,19 +4,19 @@ use mathlib.Core.Path.{_≡_, sym}
 use Prim.Native.Nat.{_+_, _-_, _≤_}
 use native.Mathlib.Omega.{arith}
 use lib.ListN.{drop}
-use Rattle.board.specs.Rates.{rates, rowIn, rowOf}
+use Rattle.board.specs.Rates.{rates, rowIn, rateRow}
 use Rattle.board.proofs.RateLaws.{row-here, row-behind}
 use Rattle.board.proofs.row_of.Statement.{statement}
 use Rattle.board.proofs.row_of.Tie as tie
 
 abbrev Inv-loop : tie.InvT-loop
-Inv-loop baud table row₀ row = (row ≤ 8) × (rowOf baud ≡ row + rowIn (drop row rates) baud)
+Inv-loop baud table row₀ row = (row ≤ 8) × (rateRow baud ≡ row + rowIn (drop row rates) baud)
 
 abbrev μ-loop : tie.MeasureT-loop
 μ-loop baud table row₀ row = 8 - row
 
 loop-holds : tie.Need-loop-holds Inv-loop μ-loop
-unfolding rowOf
+unfolding rateRow
 loop-holds c = (omega arith, omega arith)
 
 mul-if1 : tie.Need-mul-if1 Inv-loop μ-loop

@@ -1,7 +1,7 @@
 -- `layouts::rows::span_of` meets its contract.
 use mathlib.Core.Path.{sym, ap, _∙_}
-use Rattle.layouts.specs.declared.Layout.the-variants.{Full, Brief}
-use Rattle.layouts.specs.Layouts.{rowOf, spanOf}
+use Rattle.layouts.specs.declared.Layout.the-variants as layouts
+use Rattle.layouts.specs.Layouts.{placesOf, spanOf}
 use borrow.Author.Needs.{needs}
 use Rattle.layouts.proofs.rows.span_of.Statement.{statement}
 use Rattle.layouts.proofs.rows.span_of.Tie as tie
@@ -34,32 +34,32 @@ enum-told-7 : tie.Need-enum-told-7
 enum-told-7 c = search needs
 
 returns : tie.Need-returns
-unfolding spanOf rowOf
-returns c = ap spanOf (sym (c .before .before .before .layout .given .1 ∙ ap Full (c .enum-told .given .1)))
+unfolding spanOf placesOf
+returns c = ap spanOf (sym (c .before .before .before .layout .given .1 ∙ ap layouts.Dated (c .enum-told .given .1)))
 
 returns-2 : tie.Need-returns-2
-unfolding spanOf rowOf
-returns-2 c = ap spanOf (sym (c .before .before .before .layout .given .1 ∙ ap Full (c .enum-told2 .given .1)))
+unfolding spanOf placesOf
+returns-2 c = ap spanOf (sym (c .before .before .before .layout .given .1 ∙ ap layouts.Dated (c .enum-told2 .given .1)))
 
 returns-3 : tie.Need-returns-3
-unfolding spanOf rowOf
-returns-3 c = ap spanOf (sym (c .before .before .before .layout .given .1 ∙ ap Full (c .enum-told3 .given .1)))
+unfolding spanOf placesOf
+returns-3 c = ap spanOf (sym (c .before .before .before .layout .given .1 ∙ ap layouts.Dated (c .enum-told3 .given .1)))
 
 returns-4 : tie.Need-returns-4
-unfolding spanOf rowOf
-returns-4 c = ap spanOf (sym (c .before .before .before .layout .given .1 ∙ ap Full (c .enum-told4 .given .1)))
+unfolding spanOf placesOf
+returns-4 c = ap spanOf (sym (c .before .before .before .layout .given .1 ∙ ap layouts.Dated (c .enum-told4 .given .1)))
 
 returns-5 : tie.Need-returns-5
-unfolding spanOf rowOf
-returns-5 c = ap spanOf (sym (c .before .before .before .layout2 .given .1 ∙ ap Brief (c .enum-told5 .given .1)))
+unfolding spanOf placesOf
+returns-5 c = ap spanOf (sym (c .before .before .before .layout2 .given .1 ∙ ap layouts.TimeOnly (c .enum-told5 .given .1)))
 
 returns-6 : tie.Need-returns-6
-unfolding spanOf rowOf
-returns-6 c = ap spanOf (sym (c .before .before .before .layout2 .given .1 ∙ ap Brief (c .enum-told6 .given .1)))
+unfolding spanOf placesOf
+returns-6 c = ap spanOf (sym (c .before .before .before .layout2 .given .1 ∙ ap layouts.TimeOnly (c .enum-told6 .given .1)))
 
 returns-7 : tie.Need-returns-7
-unfolding spanOf rowOf
-returns-7 c = ap spanOf (sym (c .before .before .before .layout2 .given .1 ∙ ap Brief (c .enum-told7 .given .1)))
+unfolding spanOf placesOf
+returns-7 c = ap spanOf (sym (c .before .before .before .layout2 .given .1 ∙ ap layouts.TimeOnly (c .enum-told7 .given .1)))
 
 pub span-of-spec : {M : Type 1} → statement M
 span-of-spec =

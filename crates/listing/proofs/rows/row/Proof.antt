@@ -1,7 +1,7 @@
 -- `listing::rows::row` meets its contract.
 use mathlib.Core.Path.{ap, _∙_}
 use native.Mathlib.Omega.{arith}
-use Rattle.listing.specs.Listing.{rowOf, laid}
+use Rattle.listing.specs.Listing.{eventRow, laid}
 use Rattle.listing.proofs.TextLaws.{small-enough, row-laid}
 use Rattle.listing.proofs.RowLaws.{rule-refuses, rule-passes, dated-short, time-short, refused-short}
 use borrow.Author.Needs.{needs}
@@ -27,7 +27,7 @@ returns : tie.Need-returns
 returns c =
     let start = c .before .before .before .before .before .before .args .start in
     let out = c .before .before .before .before .before .before .args .out .now in
-    ap (λ a. laid (rowOf start a) out) (c .before .before .before .answer2 .given .1)
+    ap (λ a. laid (eventRow start a) out) (c .before .before .before .answer2 .given .1)
     ∙ rule-refuses start (c .before .before .before .answer2 .given .0 .0) out _ (c .before .refusal .ensures) (c .if1 .taken)
 
 enum-known-rec : tie.Need-enum-known-rec
@@ -55,7 +55,7 @@ returns-2 : tie.Need-returns-2
 returns-2 c =
     let start = c .before .before .before .before .before .before .before .before .before .args .start in
     let out = c .before .before .before .before .before .before .before .before .before .args .out .now in
-    ap (λ a. laid (rowOf start a) out) (c .before .before .before .before .before .before .answer .given .1)
+    ap (λ a. laid (eventRow start a) out) (c .before .before .before .before .before .before .answer .given .1)
     ∙ row-laid _ _ (c .before .before .before .before .refused-row .ensures) (refused-short start (omega arith) _ (omega (arith, c .before .before .before .before .before .known-told .given))) out (c .before .before .lay .ensures)
 
 same-length-2 : tie.Need-same-length-2

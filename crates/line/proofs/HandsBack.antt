@@ -19,8 +19,8 @@ use Rattle.telegram.proofs.BackAndForth.{written-reads-back}
 use Rattle.line.specs.declared.Heard.{Heard}
 use Rattle.line.specs.declared.Heard.the-variants.{Nothing, Event, Refused}
 use Rattle.line.specs.Line.{Line, answerFor, readerOf, freshLine, freshReader, endReader}
-use Rattle.line.specs.Cuts.{eventsOf, lineAfter, Served, joined, heardFrom, readerAfter, UsedUp}
-use Rattle.line.specs.Demand.{Sent, bytesSent, noStx, allGood, eventsSent, straySent}
+use Rattle.line.specs.Cuts.{eventsOf, lineAfter, Served, bytesServed, heardFrom, readerAfter, UsedUp}
+use Rattle.line.specs.SentLine.{Sent, bytesSent, noStx, allGood, eventsSent, straySent}
 use Rattle.line.proofs.FeedLaws.{inside, outside}
 use Rattle.line.proofs.ReaderLaws.{end-outside}
 use Rattle.line.proofs.Wraps.{reader-well}
@@ -92,7 +92,7 @@ sent-gives (sent ∷ others) behind fed stray good =
     (all .0, all .1 ∙ (λ i. outside (f i) (s i)))
 
 -- cut anywhere, fed to a fresh reader by any caller's loop
-module _ (sents : List Sent) (behind : List ℕ) (good : allGood sents behind ≡ true) (served : List Served) (same : joined served ≡ bytesSent sents behind)
+module _ (sents : List Sent) (behind : List ℕ) (good : allGood sents behind ≡ true) (served : List Served) (same : bytesServed served ≡ bytesSent sents behind)
     (used : UsedUp freshReader served) where
   gives : Gives freshLine (bytesSent sents behind) (eventsSent 0 sents) (outside (0 + length (bytesSent sents behind)) (0 + straySent sents behind))
   gives = sent-gives sents behind 0 0 good
