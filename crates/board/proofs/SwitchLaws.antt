@@ -9,7 +9,8 @@ use lib.Dec.{eqb}
 use lib.ListN.{length, getD}
 use borrow.Author.Tests.{eqb-true}
 use Rattle.refusals.proofs.Tables.{below}
-use Rattle.board.specs.Switches.{bit, isOn, switch, byteOf, withSwitch4}
+use Rattle.bits.specs.Bits.{bit}
+use Rattle.board.specs.Switches.{isOn, switch, byteOf, withSwitch4}
 
 -- a switch in front of others: it is the lowest bit, and half the byte is the others' byte
 module _ (others : ℕ) where

@@ -4,7 +4,7 @@ use mathlib.Core.List.{List, [], _∷_}
 use Prim.Native.Nat.{ℕ, suc, _+_, _*_, _/_, _%_}
 use lib.Dec.{eqb}
 use lib.ListN.{getD}
-use Rattle.board.specs.Switches.{bit}
+use Rattle.bits.specs.Bits.{bit}
 
 -- "on on on 150, on on off 300, on off on 600, on off off 1200,
 -- off on on 2400, off on off 4800, off off on 9600, off off off 19200"

@@ -1,12 +1,9 @@
 -- Document 01, "6036 parameter byte": the eight switches of a byte.
-use mathlib.Core.Bool.{Bool, cond}
+use mathlib.Core.Bool.{Bool}
 use mathlib.Core.List.{List, [], _∷_}
 use Prim.Native.Nat.{ℕ, _+_, _-_, _*_, _/_, _%_, _^_}
 use lib.Dec.{eqb}
-
--- a switch that is on is a bit that is 1
-abbrev pub bit : Bool → ℕ
-bit on = cond on 1 0
+use Rattle.bits.specs.Bits.{bit}
 
 -- the bit of a byte at a place, counted from 0
 abbrev pub isOn : ℕ → ℕ → Bool

@@ -6,7 +6,7 @@ ghost use mathlib.Core.Path.{_≡_};
 ghost use mathlib.Core.Bool.{cond, _||_};
 ghost use Prim.Native.Nat.{_*_, _≤_};
 ghost use lib.Dec.{eqb};
-ghost use Rattle.board.specs.Switches.{bit};
+ghost use Rattle.bits.specs.Bits.{bit};
 ghost use Rattle.board.specs.Rates.{rateAt, rateRow};
 
 pub enum Parity {

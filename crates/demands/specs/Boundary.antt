@@ -18,7 +18,7 @@ use Rattle.telegram.specs.Reading.{readOf}
 use Rattle.board.specs.declared.Parity.the-variants.{None}
 use Rattle.board.specs.declared.of_6036.Parameter.{Parameter}
 use Rattle.board.specs.Of6036.{parameterIn}
-use Rattle.listing.specs.Ascii.{ascii}
+use Rattle.ascii.specs.Ascii.{ascii}
 
 -- a row: a telegram without STX and ETX, a parameter byte, or a record to be put in UTC seconds; and its outcome
 pub data Row : Type 0 where

@@ -8,7 +8,8 @@ use Rattle.record.specs.declared.DatedLayout.{DatedLayout}
 use Rattle.record.specs.declared.Reception.{Reception}
 use Rattle.record.specs.declared.Reception.the-variants.{Invalid, Crystal, Radio, High}
 use Rattle.record.specs.Rule.{crystalOrRadio}
-use Rattle.layouts.specs.Coding.{bit, receptionAt, receptionNumber, isCrystal, hasFullYear, centuryOut}
+use Rattle.bits.specs.Bits.{bit}
+use Rattle.layouts.specs.Coding.{receptionAt, receptionNumber, isCrystal, hasFullYear, centuryOut}
 
 pub bit-small : (on : Bool) → bit on ≤ 1
 bit-small true = omega arith

@@ -11,7 +11,8 @@ use Rattle.record.specs.declared.DatedLayout.{DatedLayout}
 use Rattle.record.specs.declared.Reception.the-variants.{Crystal, Radio}
 use Rattle.record.specs.declared.Status.{Status}
 use Rattle.record.specs.Rule.{crystalOrRadio, tableCanSay, tableOf6021, statusAllowed}
-use Rattle.layouts.specs.Coding.{b0, bit, receptionAt, receptionNumber, isCrystal, statusIn6021, statusIn5500, statusOut6021, statusOut5500, statusIn, statusOut, weekdayIn, weekdayOut, turningYear, fullYear, hasFullYear, centuryOut, number}
+use Rattle.bits.specs.Bits.{bit}
+use Rattle.layouts.specs.Coding.{b0, receptionAt, receptionNumber, isCrystal, statusIn6021, statusIn5500, statusOut6021, statusOut5500, statusIn, statusOut, weekdayIn, weekdayOut, turningYear, fullYear, hasFullYear, centuryOut, number}
 use Rattle.layouts.proofs.Bits.{bit-small, bit-back, number-back, reception-small, reception-back, reception-number-back, crystal-back, crystal-bit-back}
 
 -- two digits and their number

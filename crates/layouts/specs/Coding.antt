@@ -4,6 +4,7 @@ use mathlib.Core.List.{List, [], _∷_}
 use Prim.Native.Nat.{ℕ, zero, suc, _+_, _*_, _/_, _%_}
 use lib.Dec.{ltb, eqb}
 use lib.ListN.{getD}
+use Rattle.bits.specs.Bits.{bit}
 use Rattle.calendar.specs.declared.date.Date.{Date}
 use Rattle.calendar.specs.declared.time.Time.{Time}
 use Rattle.record.specs.declared.DatedLayout.{DatedLayout}
@@ -29,9 +30,6 @@ b2 value = eqb (value / 4 % 2) 1
 
 abbrev pub b3 : ℕ → Bool
 b3 value = eqb (value / 8 % 2) 1
-
-abbrev pub bit : Bool → ℕ
-bit on = cond on 1 0
 
 -- "b3 b2: 00 invalid, 01 crystal, 10 radio, 11 radio high accuracy"
 abbrev pub receptionAt : ℕ → Reception

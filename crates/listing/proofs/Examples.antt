@@ -14,7 +14,7 @@ use Rattle.record.specs.declared.RecordAnswer.the-variants.{Good, Refused}
 use Rattle.calendar.specs.Calendar.{isLeap, monthLength, monthInRange, dateInRange, dayExists, monthStart, dayOf}
 use Rattle.calendar.specs.TimeOfDay.{timeInRange, timeRefusal}
 use Rattle.record.specs.Rule.{statusAllowed, weekdayAllowed, weekdayAgrees, datedRefusal}
-use Rattle.listing.specs.Ascii.{ascii}
+use Rattle.ascii.specs.Ascii.{ascii}
 use Rattle.listing.specs.Decimals.{decimalWithin, decimal}
 use Rattle.listing.specs.Listing.{statusColumn, datedRow, timeRow, refusedRow, recordRow, eventRow, strayRow, laid}
 

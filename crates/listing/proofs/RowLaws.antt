@@ -21,7 +21,7 @@ use Rattle.record.specs.declared.Record.{Record}
 use Rattle.record.specs.declared.RecordAnswer.{RecordAnswer}
 use Rattle.record.specs.declared.RecordAnswer.the-variants as answer
 use Rattle.record.specs.Rule.{refusalOf}
-use Rattle.listing.specs.Ascii.{ascii}
+use Rattle.ascii.specs.Ascii.{ascii}
 use Rattle.listing.specs.Decimals.{decimal}
 use Rattle.listing.specs.Listing.{headerRow, datedKind, timeKind, receptionWord, seasonWord, statusColumn, datedRow, timeRow, recordRow, refusedRow, eventRow, strayRow, laid}
 use Rattle.listing.proofs.DecimalLaws.{few-digits}

@@ -1,4 +1,3 @@
-pub mod Ascii
 pub mod Decimals
 pub mod Listing
 pub mod Texts
