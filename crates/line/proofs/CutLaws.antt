@@ -16,7 +16,7 @@ use Rattle.line.proofs.Wraps.{feed-reader}
 use Rattle.line.proofs.StaysGood.{Good, good-step, good-feed}
 
 -- one call splits what the piece tells into what was heard and what the rest tells
-abbrev Splits : List Heard → Line → Feeding → List ℕ → Type 0
+abbrev pub Splits : List Heard → Line → Feeding → List ℕ → Type 0
 Splits events after feeding rest =
     (events ≡ heardThen (heardFor (feeding .told) (feeding .at)) (eventsOf (feeding .line) rest)) × (after ≡ lineAfter (feeding .line) rest)
 
@@ -26,7 +26,7 @@ split-by : (told : Told) (start byte : ℕ) (next : Line) (on : Feeding) (piece 
 split-by nothing start byte next on piece h = rw (add-one (on .taken)) h
 split-by (event outcome size) start byte next on piece h = (refl, refl)
 
-feed-splits : (line : Line) (piece : List ℕ) → Splits (eventsOf line piece) (lineAfter line piece) (feedOf line piece) (drop (feedOf line piece .taken) piece)
+pub feed-splits : (line : Line) (piece : List ℕ) → Splits (eventsOf line piece) (lineAfter line piece) (feedOf line piece) (drop (feedOf line piece .taken) piece)
 feed-splits line [] = (refl, refl)
 feed-splits line (byte ∷ piece) =
     split-by (toldBy (line .held) byte) (startOf line) byte (step line byte) (feedOf (step line byte) piece) piece (feed-splits (step line byte) piece)

@@ -1,1 +1,3 @@
 pub mod PageLaws
+pub mod WholeLaws
+pub mod AsPrintedHolds

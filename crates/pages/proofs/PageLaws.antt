@@ -1,23 +1,28 @@
--- Laws of rows that stand one behind another in a buffer. Assumes nothing.
+-- Laws of rows that stand one behind another in a buffer, while a piece is listed. Assumes nothing.
 use mathlib.Core.Path.{_≡_, refl, ap, ap₂, sym, _∙_, subst}
 use mathlib.Core.Bool.{Bool, true, false, cond}
-use mathlib.Core.List.{List, [], _∷_, _++_, map, append-assoc, append-nil}
-use Prim.Native.Nat.{ℕ, zero, suc, _+_, _-_, _*_, _≤_, _<_, min}
-use native.Mathlib.Numerals.{add-one}
+use mathlib.Core.List.{List, [], _∷_, _++_, append-assoc, append-nil}
+use Prim.Native.Nat.{ℕ, zero, suc, _+_, _-_, _≤_, _<_}
+use native.Mathlib.Nat.{add-zero, zero-add}
 use native.Mathlib.Omega.{arith}
 use lib.Dec.{ltb}
-use lib.ListN.{length, take, drop, getD, length-append, length-take, length-drop, length-map, take-append-drop, drop-of-length-le}
-use lib.Seq.{take-all, drop-cons, drop-drop, getD-take, length-take-le, take-at, drop-at}
+use lib.ListN.{length, take, drop, length-append, length-drop, take-append-drop, drop-of-length-le}
+use lib.Seq.{take-all, drop-drop, length-take-le, take-at, drop-at}
 use borrow.Author.Tests.{le-ltb, ltb-false}
 use borrow.Rule.Slice.PartMut.{putMid}
 use Rattle.refusals.specs.Refusals.{Outcome, done, refused}
+use Rattle.line.specs.declared.Reader.{Reader}
+use Rattle.line.specs.declared.Fed.{Fed}
 use Rattle.line.specs.declared.Heard.{Heard}
 use Rattle.line.specs.declared.Heard.the-variants.{Nothing, Refused}
-use Rattle.line.specs.declared.pieces.Slot.{Slot}
-use Rattle.line.specs.Pieces.{slotOf}
+use Rattle.line.specs.Line.{wellFormed, feedReader, feedOf, lineOf, fedFor, toldBy, startOf, step}
+use Rattle.line.proofs.PieceLaws.{feed-fits}
+use Rattle.line.proofs.CutLaws.{some-by}
 use Rattle.listing.specs.Listing.{laid}
 use Rattle.telegram.proofs.SeveralLaws.{tail-back}
-use Rattle.pages.specs.Pages.{rowFor, heardIn, Rows, within, rowThen, rowsIn, pageFor}
+use Rattle.pages.specs.declared.Ending.{Ending}
+use Rattle.pages.specs.declared.Ending.the-variants as ending
+use Rattle.pages.specs.Pages.{rowFor, within, Page, stopped, rowThen, pageBy, pageOf, listedFor}
 
 -- what is laid is the row, where it fits
 abbrev laidAs : Outcome (List ℕ) → List ℕ → Outcome ℕ × List ℕ
@@ -74,72 +79,120 @@ within-fits (done made) room row e = go (ltb room (length made)) refl e
     go false fits e = let same : length made ≡ length row = cc in omega (arith, ltb-false room (length made) fits, same)
 within-fits (refused number) room row e = let z : _≡_ {A = ℕ} 0 1 = cc in absurd (omega arith)
 
--- the next of what was heard
-heard-size : (count : ℕ) (slots : List Slot) → length slots ≡ 32 → length (heardIn count slots) ≡ min count 32
-heard-size count slots size = length-map (take count slots) (λ slot. slot .heard) ∙ length-take count slots ∙ ap (min count) size
+-- a piece that has a byte is fed, and what is heard of it goes first
+pub page-some : (calls room : ℕ) (reader : Reader) (piece : List ℕ) → 0 < length piece
+    → pageBy (suc calls) room reader piece
+    ≡ rowThen (within room (rowFor (feedReader reader piece .heard))) reader (feedReader reader piece)
+      (λ size. pageBy calls (room - size) (feedReader reader piece .reader) (drop (feedReader reader piece .taken) piece))
+unfolding pageBy
+page-some calls room reader [] some = absurd (omega arith)
+page-some calls room reader (byte ∷ piece) some = refl
 
-get-map : (slots : List Slot) (at : ℕ) (slot : Slot) (heard : Heard) → at < length slots → getD (map (λ s. s .heard) slots) at heard ≡ getD slots at slot .heard
-get-map [] at slot heard h = absurd (omega arith)
-get-map (first ∷ slots) zero slot heard h = refl
-get-map (first ∷ slots) (suc at) slot heard h = get-map slots at slot heard (omega arith)
+-- a call whose row stands took a byte: where the state is refused, there is no row
+took-by : (reader : Reader) (byte : ℕ) (piece : List ℕ) (room : ℕ) (row : List ℕ) (good : Bool)
+    → let fed : Fed = cond good (fedFor (feedOf (lineOf reader) (byte ∷ piece))) (record { reader = reader; taken = 0; heard = Refused 15 }) in
+    within room (rowFor (fed .heard)) ≡ done row → 0 < fed .taken
+took-by reader byte piece room row true e =
+    some-by (toldBy (lineOf reader .held) byte) (startOf (lineOf reader)) (step (lineOf reader) byte) (feedOf (step (lineOf reader) byte) piece)
+took-by reader byte piece room row false e = let z : _≡_ {A = ℕ} 0 1 = cc in absurd (omega arith)
 
-next-heard : (count : ℕ) (slots : List Slot) (at : ℕ) (slot : Slot) → length slots ≡ 32 → at < min count 32
-    → drop at (heardIn count slots) ≡ getD slots at slot .heard ∷ drop (at + 1) (heardIn count slots)
-next-heard count slots at slot size more =
-    let inside : at < length (take count slots) = omega (arith, length-take count slots, size) in
-    let first = get-map (take count slots) at slot (slot .heard) inside ∙ ap (λ s. s .heard) (getD-take count slots at slot (omega arith)) in
-    drop-cons (heardIn count slots) at (slot .heard) (omega (arith, heard-size count slots size))
-    ∙ ap₂ _∷_ first (ap (λ n. drop n (heardIn count slots)) (sym (add-one at)))
+pub took-some : (reader : Reader) (piece : List ℕ) (room : ℕ) (row : List ℕ) → 0 < length piece
+    → within room (rowFor (feedReader reader piece .heard)) ≡ done row → 0 < feedReader reader piece .taken
+unfolding feedReader
+took-some reader [] room row some e = absurd (omega arith)
+took-some reader (byte ∷ piece) room row some e = took-by reader byte piece room row (wellFormed reader) e
 
-pub no-heard : (count : ℕ) (slots : List Slot) (at : ℕ) → length slots ≡ 32 → min count 32 ≤ at → drop at (heardIn count slots) ≡ []
-no-heard count slots at size over = drop-of-length-le (heardIn count slots) {i = at} (omega (arith, heard-size count slots size))
+-- what is laid and taken later, behind what was laid and taken before
+abbrev pub behind : List ℕ → ℕ → Page → Page
+behind bytes taken later =
+    record { bytes = bytes ++ later .bytes; taken = taken + later .taken; reader = later .reader; ending = later .ending }
 
--- rows behind others
-abbrev pub behind : List ℕ → Rows → Rows
-behind bytes later = record { bytes = bytes ++ later .bytes; refusal = later .refusal }
-
--- the state of a buffer with rows in its front
-pub record Holds (whole : Rows) (start out : List ℕ) (used : ℕ) (heard : List Heard) : Type 0 where
+-- the state of a buffer with rows in its front, while a piece is listed
+pub record Holds (whole : Page) (piece start out : List ℕ) (reader : Reader) (taken used : ℕ) : Type 0 where
   pub fits : used ≤ length out
   pub size : length out ≡ length start
   pub rest : drop used out ≡ drop used start
-  pub so-far : whole ≡ behind (take used out) (rowsIn (length start - used) heard)
+  pub inside : taken ≤ length piece
+  pub calls : ℕ
+  pub enough : length piece - taken ≤ calls
+  pub so-far : whole ≡ behind (take used out) taken (pageBy calls (length start - used) reader (drop taken piece))
 
-pub none-yet : (start : List ℕ) (heard : List Heard) → Holds (rowsIn (length start) heard) start start 0 heard
-none-yet start heard =
+pub none-yet : (piece start : List ℕ) (reader : Reader) → Holds (pageBy (length piece) (length start) reader piece) piece start start reader 0 0
+none-yet piece start reader =
     let all : length start - 0 ≡ length start = omega arith in
-    record { fits = omega arith; size = refl; rest = refl; so-far = λ i. behind [] (rowsIn (sym all i) heard) }
+    let page = pageBy (length piece) (length start) reader piece in
+    record {
+      fits = omega arith;
+      size = refl;
+      rest = refl;
+      inside = omega arith;
+      calls = length piece;
+      enough = omega arith;
+      so-far =
+          (λ i. record { bytes = page .bytes; taken = sym (zero-add (page .taken)) i; reader = page .reader; ending = page .ending })
+          ∙ (λ i. behind [] 0 (pageBy (length piece) (sym all i) reader piece));
+    }
 
--- a turn: what the next slot holds stands in front
-pub turn : {whole : Rows} {start out : List ℕ} {used : ℕ} (count : ℕ) (slots : List Slot) (at : ℕ) → length slots ≡ 32 → at < min count 32
-    → Holds whole start out used (drop at (heardIn count slots))
-    → Holds whole start out used (getD slots at (slotOf Nothing) .heard ∷ drop (at + 1) (heardIn count slots))
-turn {whole} {start} {out} {used} count slots at size more holds =
-    subst (Holds whole start out used) (next-heard count slots at (slotOf Nothing) size more) holds
+module _ (whole : Page) (piece start out : List ℕ) (reader : Reader) (taken used : ℕ) (holds : Holds whole piece start out reader taken used)
+    (more : taken < length piece) (fed : Fed) (call : fed ≡ feedReader reader (take (length piece - taken) (drop taken piece)))
+    (answer : Outcome ℕ) (last : List ℕ) (told : laid (rowFor (fed .heard)) (take (length out - used) (drop used out)) ≡ (answer, last)) where
+  left : take (length piece - taken) (drop taken piece) ≡ drop taken piece
+  left = take-all (length piece - taken) (drop taken piece) (omega (arith, length-drop taken piece))
 
-module _ (whole : Rows) (start out : List ℕ) (used : ℕ) (heard : Heard) (others : List Heard) (holds : Holds whole start out used (heard ∷ others))
-    (answer : Outcome ℕ) (last : List ℕ) (told : laid (rowFor heard) (take (length out - used) (drop used out)) ≡ (answer, last)) where
+  fed-is : fed ≡ feedReader reader (drop taken piece)
+  fed-is = call ∙ ap (feedReader reader) left
+
   lent : take (length out - used) (drop used out) ≡ drop used out
   lent = take-all (length out - used) (drop used out) (omega (arith, length-drop used out))
 
   room : length (drop used out) ≡ length start - used
   room = length-drop used out ∙ ap (λ n. n - used) (holds .size)
 
-  answered : laidAs (within (length start - used) (rowFor heard)) (drop used out) ≡ (answer, last)
+  answered : laidAs (within (length start - used) (rowFor (fed .heard))) (drop used out) ≡ (answer, last)
   answered =
-      ap (λ n. laidAs (within n (rowFor heard)) (drop used out)) (sym room)
-      ∙ sym (laid-within (rowFor heard) (drop used out))
-      ∙ ap (laid (rowFor heard)) (sym lent)
+      ap (λ n. laidAs (within n (rowFor (fed .heard))) (drop used out)) (sym room)
+      ∙ sym (laid-within (rowFor (fed .heard)) (drop used out))
+      ∙ ap (laid (rowFor (fed .heard))) (sym lent)
       ∙ told
 
   back : putMid used (length out - used) out last ≡ take used out ++ last
   back = tail-back used out used last (omega (arith, holds .fits))
 
-  pub row-stands : (n : ℕ) → answer ≡ done n → Holds whole start (putMid used (length out - used) out last) (used + n) others
-  unfolding rowsIn
+  some : 0 < length (drop taken piece)
+  some = omega (arith, length-drop taken piece)
+
+  -- one call less
+  record Less : Type 0 where
+    calls : ℕ
+    is : holds .calls ≡ suc calls
+
+  less : Less
+  less = go (holds .calls) refl
+    where
+      go : (n : ℕ) → holds .calls ≡ n → Less
+      go zero e = absurd (omega (arith, e, holds .enough))
+      go (suc n) e = record { calls = n; is = e }
+
+  abbrev later : ℕ → Page
+  later size = pageBy (less .calls) (length start - used - size) (fed .reader) (drop (taken + fed .taken) piece)
+
+  next-is : pageBy (holds .calls) (length start - used) reader (drop taken piece) ≡ rowThen (within (length start - used) (rowFor (fed .heard))) reader fed later
+  next-is =
+      ap (λ n. pageBy n (length start - used) reader (drop taken piece)) (less .is)
+      ∙ page-some (less .calls) (length start - used) reader (drop taken piece) some
+      ∙ ap (λ f. rowThen (within (length start - used) (rowFor (f .heard))) reader f (λ size. pageBy (less .calls) (length start - used - size) (f .reader) (drop (f .taken) (drop taken piece)))) (sym fed-is)
+      ∙ ap (λ rest. rowThen (within (length start - used) (rowFor (fed .heard))) reader fed (λ size. pageBy (less .calls) (length start - used - size) (fed .reader) rest)) (drop-drop (fed .taken) taken piece)
+
+  took-fits : taken + fed .taken ≤ length piece
+  took-fits = omega (arith, ap (λ f. f .taken) fed-is, feed-fits reader (drop taken piece), length-drop taken piece)
+
+  pub row-stands : (n : ℕ) → answer ≡ done n
+      → Holds whole piece start (putMid used (length out - used) out last) (fed .reader) (taken + fed .taken) (used + n) × (0 < fed .taken)
   row-stands n is =
-      let row = stands-as (within (length start - used) (rowFor heard)) (drop used out) n last (answered ∙ ap (λ a. (a, last)) is) in
-      let fits : length (row .row) ≤ length start - used = within-fits (rowFor heard) (length start - used) (row .row) (row .is-done) in
+      let row = stands-as (within (length start - used) (rowFor (fed .heard))) (drop used out) n last (answered ∙ ap (λ a. (a, last)) is) in
+      let fits : length (row .row) ≤ length start - used = within-fits (rowFor (fed .heard)) (length start - used) (row .row) (row .is-done) in
+      let took : 0 < fed .taken =
+      omega (arith, ap (λ f. f .taken) fed-is, took-some reader (drop taken piece) (length start - used) (row .row) some (ap (λ f. within (length start - used) (rowFor (f .heard))) (sym fed-is) ∙ row .is-done)) in
       let front : length (take used out ++ row .row) ≡ used + n =
       length-append (take used out) (row .row) ∙ ap₂ _+_ (length-take-le used out (holds .fits)) (row .size) in
       let behind-it : drop n (drop used out) ≡ drop (used + n) start =
@@ -149,64 +202,58 @@ module _ (whole : Rows) (start out : List ℕ) (used : ℕ) (heard : Heard) (oth
       let all : length (putMid used (length out - used) out last) ≡ length start =
       ap length now ∙ length-append (take used out ++ row .row) (drop (used + n) start)
       ∙ omega (arith, front, length-drop (used + n) start, fits, row .size, holds .fits, holds .size) in
-      let less : length start - used - length (row .row) ≡ length start - (used + n) = omega (arith, row .size) in
-      record {
-        fits = omega (arith, all, fits, row .size, holds .fits, holds .size);
-        size = all;
-        rest = ap (drop (used + n)) now ∙ drop-at (take used out ++ row .row) (drop (used + n) start) (used + n) front;
-        so-far =
-            holds .so-far
-            ∙ ap (λ outcome. behind (take used out) (rowThen outcome (λ size. rowsIn (length start - used - size) others))) (row .is-done)
-            ∙ ap (λ room. behind (take used out) (behind (row .row) (rowsIn room others))) less
-            ∙ (λ i. record { bytes = sym (append-assoc (take used out) (row .row) (rowsIn (length start - (used + n)) others .bytes)) i; refusal = rowsIn (length start - (used + n)) others .refusal })
-            ∙ ap (λ bytes. behind bytes (rowsIn (length start - (used + n)) others)) (sym (ap (take (used + n)) now ∙ take-at (take used out ++ row .row) (drop (used + n) start) (used + n) front));
-      }
-
-  pub row-stops : (n : ℕ) → answer ≡ refused n
-      → (record { used = used; refusal = n } ≡ pageFor whole) × (putMid used (length out - used) out last ≡ whole .bytes ++ drop used start)
-  unfolding rowsIn
-  row-stops n is =
-      let stops = stops-as (within (length start - used) (rowFor heard)) (drop used out) n last (answered ∙ ap (λ a. (a, last)) is) in
-      let whole-is : whole ≡ record { bytes = take used out ++ []; refusal = n } =
-      holds .so-far ∙ ap (λ outcome. behind (take used out) (rowThen outcome (λ size. rowsIn (length start - used - size) others))) (stops .0) in
-      let size : used ≡ length (take used out ++ []) = sym (ap length (append-nil (take used out)) ∙ length-take-le used out (holds .fits)) in (
-        (λ i. record { used = size i; refusal = n }) ∙ ap pageFor (sym whole-is),
-        back ∙ ap₂ _++_ (sym (ap (λ rows. rows .bytes) whole-is ∙ append-nil (take used out))) (stops .1 ∙ holds .rest),
+      let less-room : length start - used - length (row .row) ≡ length start - (used + n) = omega (arith, row .size) in
+      let page = pageBy (less .calls) (length start - (used + n)) (fed .reader) (drop (taken + fed .taken) piece) in
+      let sum : taken + (fed .taken + page .taken) ≡ taken + fed .taken + page .taken = omega arith in (
+        record {
+          fits = omega (arith, all, fits, row .size, holds .fits, holds .size);
+          size = all;
+          rest = ap (drop (used + n)) now ∙ drop-at (take used out ++ row .row) (drop (used + n) start) (used + n) front;
+          inside = took-fits;
+          calls = less .calls;
+          enough = omega (arith, holds .enough, less .is, took);
+          so-far =
+              holds .so-far
+              ∙ ap (behind (take used out) taken) (next-is ∙ ap (λ outcome. rowThen outcome reader fed later) (row .is-done))
+              ∙ ap (λ room. behind (take used out) taken (behind (row .row) (fed .taken) (pageBy (less .calls) room (fed .reader) (drop (taken + fed .taken) piece)))) less-room
+              ∙ (λ i. record { bytes = sym (append-assoc (take used out) (row .row) (page .bytes)) i; taken = sum i; reader = page .reader; ending = page .ending })
+              ∙ ap (λ bytes. behind bytes (taken + fed .taken) page) (sym (ap (take (used + n)) now ∙ take-at (take used out ++ row .row) (drop (used + n) start) (used + n) front));
+        },
+        took,
       )
 
-pub rows-end : (whole : Rows) (start out : List ℕ) (used : ℕ) (left : List Heard) → left ≡ [] → Holds whole start out used left
-    → (record { used = used; refusal = 0 } ≡ pageFor whole) × (out ≡ whole .bytes ++ drop used start)
-unfolding rowsIn
-rows-end whole start out used left over held =
-    let holds = subst (Holds whole start out used) over held in
+  pub row-stops : (n : ℕ) → answer ≡ refused n
+      → (record { reader = reader; taken = taken; used = used; ending = ending.Refused n } ≡ listedFor whole)
+      × (putMid used (length out - used) out last ≡ whole .bytes ++ drop used start)
+  row-stops n is =
+      let stops = stops-as (within (length start - used) (rowFor (fed .heard))) (drop used out) n last (answered ∙ ap (λ a. (a, last)) is) in
+      let whole-is : whole ≡ record { bytes = take used out ++ []; taken = taken + 0; reader = reader; ending = ending.Refused n } =
+      holds .so-far ∙ ap (behind (take used out) taken) (next-is ∙ ap (λ outcome. rowThen outcome reader fed later) (stops .0)) in
+      let size : used ≡ length (take used out ++ []) = sym (ap length (append-nil (take used out)) ∙ length-take-le used out (holds .fits)) in (
+        (λ i. record { reader = reader; taken = sym (add-zero taken) i; used = size i; ending = ending.Refused n }) ∙ ap listedFor (sym whole-is),
+        back ∙ ap₂ _++_ (sym (ap (λ page. page .bytes) whole-is ∙ append-nil (take used out))) (stops .1 ∙ holds .rest),
+      )
+
+page-none : (calls room : ℕ) (reader : Reader) → pageBy calls room reader [] ≡ stopped reader ending.Whole
+unfolding pageBy
+page-none zero room reader = refl
+page-none (suc calls) room reader = refl
+
+pub page-ends : (whole : Page) (piece start out : List ℕ) (reader : Reader) (taken used : ℕ) → length piece ≤ taken → Holds whole piece start out reader taken used
+    → (record { reader = reader; taken = taken; used = used; ending = ending.Whole } ≡ listedFor whole) × (out ≡ whole .bytes ++ drop used start)
+page-ends whole piece start out reader taken used over holds =
+    let whole-is : whole ≡ record { bytes = take used out ++ []; taken = taken + 0; reader = reader; ending = ending.Whole } =
+    holds .so-far ∙ ap (behind (take used out) taken) (ap (pageBy (holds .calls) (length start - used) reader) (drop-of-length-le piece {i = taken} over) ∙ page-none (holds .calls) (length start - used) reader) in
     let size : used ≡ length (take used out ++ []) = sym (ap length (append-nil (take used out)) ∙ length-take-le used out (holds .fits)) in (
-      (λ i. record { used = size i; refusal = 0 }) ∙ ap pageFor (sym (holds .so-far)),
-      sym (take-append-drop used out) ∙ ap₂ _++_ (sym (ap (λ rows. rows .bytes) (holds .so-far) ∙ append-nil (take used out))) (holds .rest),
+      (λ i. record { reader = reader; taken = sym (add-zero taken) i; used = size i; ending = ending.Whole }) ∙ ap listedFor (sym whole-is),
+      sym (take-append-drop used out) ∙ ap₂ _++_ (sym (ap (λ page. page .bytes) whole-is ∙ append-nil (take used out))) (holds .rest),
     )
 
--- with room for as many rows as there are, all of them stand
-abbrev pub Rowed : List Heard → List (List ℕ) → Type 0
-Rowed [] [] = Unit
-Rowed (heard ∷ others) (row ∷ rows) = (rowFor heard ≡ done row) × (length row ≤ 69) × Rowed others rows
-Rowed [] (row ∷ rows) = ⊥
-Rowed (heard ∷ others) [] = ⊥
+-- a piece listed by a reader whose state is refused, and by one whose state is well formed
+pub page-refused : (room : ℕ) (reader : Reader) (piece : List ℕ) → wellFormed reader ≡ false → pageOf room reader piece ≡ stopped reader (ending.Refused 15)
+unfolding pageOf
+page-refused room reader piece bad = rw bad
 
-abbrev pub joined : List (List ℕ) → List ℕ
-joined [] = []
-joined (row ∷ rows) = row ++ joined rows
-
-fits-whole : (room : ℕ) (outcome : Outcome (List ℕ)) (row : List ℕ) → outcome ≡ done row → length row ≤ room → within room outcome ≡ done row
-fits-whole room outcome row is fits =
-    ap (within room) is ∙ ap (λ short. cond short (refused 13) (done row)) (le-ltb room (length row) fits)
-
-pub all-stand : (room : ℕ) (heard : List Heard) (rows : List (List ℕ)) → Rowed heard rows → 69 * length heard ≤ room
-    → rowsIn room heard ≡ record { bytes = joined rows; refusal = 0 }
-unfolding rowsIn
-all-stand room [] [] rowed enough = refl
-all-stand room [] (row ∷ rows) rowed enough = absurd rowed
-all-stand room (heard ∷ others) [] rowed enough = absurd rowed
-all-stand room (heard ∷ others) (row ∷ rows) rowed enough =
-    let here = fits-whole room (rowFor heard) row (rowed .0) (omega (arith, rowed .1, enough)) in
-    let on = all-stand (room - length row) others rows (rowed .2) (omega (arith, rowed .1, enough)) in
-    ap (λ outcome. rowThen outcome (λ size. rowsIn (room - size) others)) here
-    ∙ (λ i. record { bytes = row ++ on i .bytes; refusal = on i .refusal })
+pub page-good : (room : ℕ) (reader : Reader) (piece : List ℕ) → wellFormed reader ≡ true → pageOf room reader piece ≡ pageBy (length piece) room reader piece
+unfolding pageOf
+page-good room reader piece good = rw good

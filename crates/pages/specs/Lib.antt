@@ -1,1 +1,3 @@
 pub mod Pages
+pub mod Whole
+pub mod AsPrinted

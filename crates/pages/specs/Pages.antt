@@ -1,15 +1,19 @@
--- Document 01, "Listing, whole": the rows of a line's events, one behind another.
+-- The rows of a line's events, one behind another in a lent buffer.
 use mathlib.Core.Bool.{cond}
-use mathlib.Core.List.{List, [], _∷_, _++_, map}
-use Prim.Native.Nat.{ℕ, _-_}
+use mathlib.Core.List.{List, [], _∷_, _++_}
+use Prim.Native.Nat.{ℕ, zero, suc, _+_, _-_}
 use lib.Dec.{ltb}
-use lib.ListN.{length, take}
+use lib.ListN.{length, drop}
 use Rattle.refusals.specs.Refusals.{Outcome, done, refused}
+use Rattle.line.specs.declared.Reader.{Reader}
+use Rattle.line.specs.declared.Fed.{Fed}
 use Rattle.line.specs.declared.Heard.{Heard}
 use Rattle.line.specs.declared.Heard.the-variants.{Nothing, Event, Refused}
-use Rattle.line.specs.declared.pieces.Slot.{Slot}
+use Rattle.line.specs.Line.{wellFormed, feedReader}
 use Rattle.listing.specs.Listing.{eventRow}
-use Rattle.pages.specs.declared.Page.{Page}
+use Rattle.pages.specs.declared.Ending.{Ending}
+use Rattle.pages.specs.declared.Ending.the-variants as ending
+use Rattle.pages.specs.declared.Listed.{Listed}
 
 -- the row of what was heard: an event has one, nothing has none, and a refused state has its number
 abbrev pub rowFor : Heard → Outcome (List ℕ)
@@ -17,28 +21,49 @@ rowFor Nothing = done []
 rowFor (Event answer start size) = eventRow start answer
 rowFor (Refused number) = refused number
 
--- what the first slots hold
-abbrev pub heardIn : ℕ → List Slot → List Heard
-heardIn count slots = map (λ slot. slot .heard) (take count slots)
-
--- rows in a buffer, and the refusal that ended them, or 0
-pub record Rows : Type 0 where
-  pub bytes : List ℕ
-  pub refusal : ℕ
-
 -- 13: "the lent buffer is shorter than what is to be written"
 abbrev pub within : ℕ → Outcome (List ℕ) → Outcome (List ℕ)
 within room (done row) = cond (ltb room (length row)) (refused 13) (done row)
 within room (refused number) = refused number
 
--- each row "into the room after the last; the first refusal ends it, the earlier ones stay"
-abbrev pub rowThen : Outcome (List ℕ) → (ℕ → Rows) → Rows
-rowThen (done row) later = record { bytes = row ++ later (length row) .bytes; refusal = later (length row) .refusal }
-rowThen (refused number) later = record { bytes = []; refusal = number }
+-- what a call lays, how many bytes of the piece it takes, the reader after them, and how it ends
+pub record Page : Type 0 where
+  pub bytes : List ℕ
+  pub taken : ℕ
+  pub reader : Reader
+  pub ending : Ending
 
-unfoldable pub rowsIn : ℕ → List Heard → Rows
-rowsIn room [] = record { bytes = []; refusal = 0 }
-rowsIn room (heard ∷ others) = rowThen (within room (rowFor heard)) (λ size. rowsIn (room - size) others)
+-- nothing more is laid
+abbrev pub stopped : Reader → Ending → Page
+stopped reader end = record { bytes = []; taken = 0; reader = reader; ending = end }
 
-abbrev pub pageFor : Rows → Page
-pageFor rows = record { used = length (rows .bytes); refusal = rows .refusal }
+-- each row "into the room after the last; the first refusal ends it, the earlier ones stay". Of what it refuses nothing is taken
+abbrev pub rowThen : Outcome (List ℕ) → Reader → Fed → (ℕ → Page) → Page
+rowThen (done row) reader fed later =
+    record {
+      bytes = row ++ later (length row) .bytes;
+      taken = fed .taken + later (length row) .taken;
+      reader = later (length row) .reader;
+      ending = later (length row) .ending;
+    }
+rowThen (refused number) reader fed later = stopped reader (ending.Refused number)
+
+-- of a piece with no byte nothing is laid
+abbrev pub ifAny : List ℕ → Reader → Page → Page
+ifAny [] reader page = stopped reader ending.Whole
+ifAny (byte ∷ piece) reader page = page
+
+-- a piece listed by at most so many calls of the line: a call takes a byte at least, so as many as it has bytes are enough
+unfoldable pub pageBy : ℕ → ℕ → Reader → List ℕ → Page
+pageBy zero room reader piece = stopped reader ending.Whole
+pageBy (suc calls) room reader piece =
+    ifAny piece reader
+    (rowThen (within room (rowFor (feedReader reader piece .heard))) reader (feedReader reader piece)
+    (λ size. pageBy calls (room - size) (feedReader reader piece .reader) (drop (feedReader reader piece .taken) piece)))
+
+-- a piece listed into a buffer of so many bytes; a state that is not well formed is 15, and takes nothing
+unfoldable pub pageOf : ℕ → Reader → List ℕ → Page
+pageOf room reader piece = cond (wellFormed reader) (pageBy (length piece) room reader piece) (stopped reader (ending.Refused 15))
+
+abbrev pub listedFor : Page → Listed
+listedFor page = record { reader = page .reader; taken = page .taken; used = length (page .bytes); ending = page .ending }

@@ -1,24 +1,31 @@
-// A piece of a line, listed: it is used up, and the rows of its events stand one behind another in a lent buffer.
+// A line, listed: the rows of its events stand one behind another in a lent buffer, piece by piece.
 use line::Heard;
-use line::pieces::Slot;
+use line::Reader;
 use listing::RowAnswer;
 use listing::rows::row;
-use refusals::NONE;
+use refusals::STATE_ILL_FORMED;
 ghost use mathlib.Core.Path.{_≡_};
 ghost use mathlib.Core.List.{_++_};
-ghost use Prim.Native.Nat.{min};
 ghost use lib.ListN.{length, drop};
 ghost use Rattle.listing.specs.Listing.{laid};
 ghost use Rattle.listing.specs.Answers.{rowAnswer};
-ghost use Rattle.pages.specs.Pages.{rowFor, heardIn, rowsIn, pageFor};
+ghost use Rattle.pages.specs.Pages.{rowFor, pageOf, listedFor};
 
-// How many bytes the rows take, and the refusal that ended them, if any.
-pub struct Page {
-    pub used: usize,
-    pub refusal: u8,
+// How a call ended: the whole piece was taken, or a refusal ended it.
+pub enum Ending {
+    Whole,
+    Refused(u8),
 }
 
-// The row of what was heard at the front of a buffer.
+// The reader after the bytes that were taken, how many they are, and how many bytes their rows take.
+pub struct Listed {
+    pub reader: Reader,
+    pub taken: usize,
+    pub used: usize,
+    pub ending: Ending,
+}
+
+// The row of what was heard, at the front of a buffer.
 pub fn row_for(heard: Heard, out: &mut [u8]) -> RowAnswer
     ensures { λ r. ⌜ laid (rowFor heard) (now (out .entry)) ≡ (rowAnswer r, now (out .exit)) ⌝ }
 {
@@ -29,40 +36,46 @@ pub fn row_for(heard: Heard, out: &mut [u8]) -> RowAnswer
     }
 }
 
-fn at_most_32(count: usize) -> usize
-    ensures { λ r. ⌜ r ≡ min count 32 ⌝ }
+// The rows of a piece's events, each in the room behind the last. Where the buffer has no room for a row, the bytes of its
+// event are not taken: they are given again, with the rest of the piece and another buffer.
+pub fn list(reader: Reader, piece: &[u8], out: &mut [u8]) -> Listed
+    ensures { λ r. ⌜ (r ≡ listedFor (pageOf (length (now (out .entry))) reader (now (piece .entry)))) × (now (out .exit) ≡ pageOf (length (now (out .entry))) reader (now (piece .entry)) .bytes ++ drop (r .used) (now (out .entry))) ⌝ }
 {
-    if count < 32 {
-        return count;
+    if !reader.is_well_formed() {
+        return Listed {
+            reader: reader,
+            taken: 0,
+            used: 0,
+            ending: Ending::Refused(STATE_ILL_FORMED),
+        };
     }
-    32
-}
-
-// The rows of the first `count` slots, each in the room behind the last. The first refusal ends it, and the earlier rows stay.
-pub fn rows(slots: [Slot; 32], count: usize, out: &mut [u8]) -> Page
-    ensures { λ r. ⌜ (r ≡ pageFor (rowsIn (length (now (out .entry))) (heardIn count slots))) × (now (out .exit) ≡ rowsIn (length (now (out .entry))) (heardIn count slots) .bytes ++ drop (r .used) (now (out .entry))) ⌝ }
-{
-    let end = at_most_32(count);
+    let length = piece.len();
+    let mut next = reader;
+    let mut taken: usize = 0;
     let mut used: usize = 0;
-    let mut at: usize = 0;
-    while at < end {
-        let slot = slots[at];
-        let heard = slot.heard;
+    while taken < length {
+        let fed = next.feed(&piece[taken..length]);
+        let heard = fed.heard;
         match row_for(heard, &mut out[used..]) {
             RowAnswer::Written(n) => {
                 used += n;
-                at += 1;
+                next = fed.reader;
+                taken += fed.taken;
             }
             RowAnswer::Refused(number) => {
-                return Page {
+                return Listed {
+                    reader: next,
+                    taken: taken,
                     used: used,
-                    refusal: number,
+                    ending: Ending::Refused(number),
                 };
             }
         }
     }
-    Page {
+    Listed {
+        reader: next,
+        taken: taken,
         used: used,
-        refusal: NONE,
+        ending: Ending::Whole,
     }
 }

@@ -1,0 +1,18 @@
+-- The listing of document 01's example, and of the empty input, is the printed one. Assumes nothing.
+use mathlib.Core.Path.{refl}
+use Rattle.refusals.specs.Refusals.{unless}
+use Rattle.places.specs.Places.{isDecimal, isCapital, codeValue}
+use Rattle.calendar.specs.Calendar.{isLeap, monthLength, monthInRange, dateInRange, dayExists, monthStart, dayOf}
+use Rattle.calendar.specs.TimeOfDay.{timeInRange, timeRefusal}
+use Rattle.record.specs.Rule.{plainUtc, tableCanSay, statusAllowed, weekdayAllowed, weekdayAgrees, datedRefusal}
+use Rattle.layouts.specs.Layouts.{placesOf, layoutOf}
+use Rattle.layouts.specs.Coding.{statusIn6021, statusIn5500}
+use Rattle.telegram.specs.Reading.{carried, bodyRefusal, readOf}
+use Rattle.listing.specs.Decimals.{decimal, decimalWithin}
+use Rattle.listing.specs.Listing.{headerRow, datedRow, refusedRow, strayRow, statusColumn}
+use Rattle.pages.specs.Whole.{listingOf}
+use Rattle.pages.specs.AsPrinted.{TheListingIsAsPrinted}
+
+pub as-printed : TheListingIsAsPrinted
+unfolding unless isDecimal isCapital codeValue isLeap monthLength monthInRange dateInRange dayExists monthStart dayOf timeInRange timeRefusal plainUtc tableCanSay statusAllowed weekdayAllowed weekdayAgrees datedRefusal placesOf layoutOf statusIn6021 statusIn5500 carried bodyRefusal readOf decimal decimalWithin headerRow datedRow refusedRow strayRow statusColumn listingOf
+as-printed = (refl, refl)

@@ -1,0 +1,197 @@
+-- What is laid for a line, however it is cut and whatever buffers are lent, is the listing of the line. Assumes nothing.
+use mathlib.Core.Path.{_≡_, refl, ap, ap₂, sym, _∙_, subst, subst⁻¹}
+use mathlib.Core.Bool.{Bool, true, false, cond}
+use mathlib.Core.List.{List, [], _∷_, _++_, append-assoc}
+use Prim.Native.Nat.{ℕ, zero, suc, _+_, _-_}
+use Prim.{Unit, tt}
+use native.Mathlib.Omega.{arith}
+use lib.Dec.{leb, ltb, eqb}
+use lib.ListN.{length, drop, replicate}
+use lib.Seq.{drop-drop, take-at}
+use Rattle.refusals.specs.Refusals.{Outcome, done, refused}
+use Rattle.refusals.proofs.Laws.{does}
+use Rattle.record.specs.Rule.{refusalOf}
+use Rattle.telegram.specs.Reading.{readOf}
+use Rattle.telegram.proofs.BackAndForth.{accepted-is-written}
+use Rattle.line.specs.declared.Reader.{Reader}
+use Rattle.line.specs.declared.Fed.{Fed}
+use Rattle.line.specs.declared.Heard.{Heard}
+use Rattle.line.specs.declared.Heard.the-variants.{Nothing, Event, Refused}
+use Rattle.line.specs.Line.{Line, Told, nothing, event, Feeding, stopOr, feedOf, toldBy, toldByEnd, step, startOf, readerOf, heardFor, fedFor, freshLine, freshReader, feedReader, endReader}
+use Rattle.line.specs.Cuts.{eventsOf, lineAfter, heardThen}
+use Rattle.line.proofs.Wraps.{feed-reader}
+use Rattle.line.proofs.StaysGood.{Good, good-feed, reader-of-good}
+use Rattle.line.proofs.CutLaws.{feed-splits, events-join, after-join, good-after, good-fresh, fresh-is}
+use Rattle.listing.specs.Listing.{headerRow, recordRow, strayRow}
+use Rattle.pages.specs.declared.Ending.{Ending}
+use Rattle.pages.specs.declared.Ending.the-variants as ending
+use Rattle.pages.specs.Pages.{rowFor, within, Page, stopped, rowThen, ifAny, pageBy, pageOf}
+use Rattle.pages.specs.Whole.{rowOfEvent, rowsOf, lastHeard, listingOf, Turns, turnsWith, Lent, bytesLent, rowsLaid, readerLeft, AllListed, WhatIsLaidIsTheListing}
+use Rattle.pages.proofs.PageLaws.{page-good}
+
+-- a record that the line hands out is good
+abbrev pub Sound : Told → Type 0
+Sound nothing = Unit
+Sound (event (done rec) size) = refusalOf rec ≡ 0
+Sound (event (refused n) size) = Unit
+
+sound-read : (bytes : List ℕ) (size : ℕ) (outcome : _) → readOf true bytes ≡ outcome → Sound (event outcome size)
+sound-read bytes size (done rec) e = accepted-is-written true bytes rec e .is-good
+sound-read bytes size (refused n) e = tt
+
+sound-inside : (bytes : List ℕ) (size held longest : ℕ) (etx stx full : Bool)
+    → Sound (cond etx (event (readOf true bytes) size) (cond stx (event (refused 9) held) (cond full (event (refused 10) longest) nothing)))
+sound-inside bytes size held longest true stx full = sound-read bytes size (readOf true bytes) refl
+sound-inside bytes size held longest false true full = tt
+sound-inside bytes size held longest false false true = tt
+sound-inside bytes size held longest false false false = tt
+
+sound-told : (held : List ℕ) (byte : ℕ) → Sound (toldBy held byte)
+sound-told [] byte = tt
+sound-told (first ∷ held) byte = sound-inside _ _ _ _ (eqb byte 3) (eqb byte 2) (leb 24 (length (first ∷ held)))
+
+stop-sound : (told : Told) (start : ℕ) (next : Line) (on : Feeding) → Sound told → Sound (on .told) → Sound (stopOr told start next on .told)
+stop-sound nothing start next on here later = later
+stop-sound (event outcome size) start next on here later = here
+
+pub sound-feed : (line : Line) (piece : List ℕ) → Sound (feedOf line piece .told)
+sound-feed line [] = tt
+sound-feed line (byte ∷ piece) =
+    stop-sound (toldBy (line .held) byte) (startOf line) (step line byte) (feedOf (step line byte) piece) (sound-told (line .held) byte) (sound-feed (step line byte) piece)
+
+-- so what is heard has its row
+pub row-told : (told : Told) (at : ℕ) → Sound told → rowFor (heardFor told at) ≡ done (rowOfEvent (heardFor told at))
+row-told nothing at sound = refl
+row-told (event (done rec) size) at sound = does (recordRow at rec) sound
+row-told (event (refused n) size) at sound = refl
+
+rows-then : (heard : Heard) (later : List Heard) → rowsOf (heardThen heard later) ≡ rowOfEvent heard ++ rowsOf later
+rows-then Nothing later = refl
+rows-then (Event answer start size) later = refl
+rows-then (Refused number) later = refl
+
+rows-join : (a b : List Heard) → rowsOf (a ++ b) ≡ rowsOf a ++ rowsOf b
+rows-join [] b = refl
+rows-join (heard ∷ a) b = ap (_++_ (rowOfEvent heard)) (rows-join a b) ∙ sym (append-assoc (rowOfEvent heard) (rowsOf a) (rowsOf b))
+
+-- a line that goes on where the bytes laid and what is left of the piece say: together they make the whole
+pub record GoesOn (line : Line) (piece laid : List ℕ) (reader : Reader) (rest : List ℕ) : Type 0 where
+  pub next : Line
+  pub good : Good next
+  pub is : reader ≡ readerOf next
+  pub rows : rowsOf (eventsOf line piece) ≡ laid ++ rowsOf (eventsOf next rest)
+  pub ends : lineAfter line piece ≡ lineAfter next rest
+
+abbrev pub Continues : Line → List ℕ → Page → Type 0
+Continues line piece page = GoesOn line piece (page .bytes) (page .reader) (drop (page .taken) piece)
+
+stays : (line : Line) (piece : List ℕ) (end : Ending) → Good line → Continues line piece (stopped (readerOf line) end)
+stays line piece end good = record { next = line; good = good; is = refl; rows = refl; ends = refl }
+
+pub fed-as : (line : Line) → Good line → (piece : List ℕ) → feedReader (readerOf line) piece ≡ fedFor (feedOf line piece)
+fed-as line good piece = feed-reader (line .held) (line .fed) (line .stray) (good .fits) (good .started) piece
+
+-- one row more, where it fits
+module _ (line : Line) (good : Good line) (piece : List ℕ) (room : ℕ) (later : ℕ → Page)
+    (on : (size : ℕ) → Continues (feedOf line piece .line) (drop (feedOf line piece .taken) piece) (later size)) where
+  abbrev heard : Heard
+  heard = heardFor (feedOf line piece .told) (feedOf line piece .at)
+
+  fits-or-not : (short : Bool) → Continues line piece (rowThen (cond short (refused 13) (done (rowOfEvent heard))) (readerOf line) (fedFor (feedOf line piece)) later)
+  fits-or-not true = stays line piece (ending.Refused 13) good
+  fits-or-not false =
+      let row = rowOfEvent heard in
+      let size = length row in
+      let taken = feedOf line piece .taken in
+      let splits = feed-splits line piece in
+      let left = drop-drop (later size .taken) taken piece in
+      record {
+        next = on size .next;
+        good = on size .good;
+        is = on size .is;
+        rows =
+            ap rowsOf (splits .0)
+            ∙ rows-then heard (eventsOf (feedOf line piece .line) (drop taken piece))
+            ∙ ap (_++_ row) (on size .rows)
+            ∙ sym (append-assoc row (later size .bytes) (rowsOf (eventsOf (on size .next) (drop (later size .taken) (drop taken piece)))))
+            ∙ ap (λ rest. (row ++ later size .bytes) ++ rowsOf (eventsOf (on size .next) rest)) left;
+        ends = splits .1 ∙ on size .ends ∙ ap (lineAfter (on size .next)) left;
+      }
+
+  row-continues : Continues line piece (rowThen (within room (rowFor heard)) (readerOf line) (fedFor (feedOf line piece)) later)
+  row-continues =
+      subst⁻¹ (λ outcome. Continues line piece (rowThen (within room outcome) (readerOf line) (fedFor (feedOf line piece)) later))
+      (row-told (feedOf line piece .told) (feedOf line piece .at) (sound-feed line piece))
+      (fits-or-not (ltb room (length (rowOfEvent heard))))
+
+pub page-continues : (calls room : ℕ) (line : Line) → Good line → (piece : List ℕ) → Continues line piece (pageBy calls room (readerOf line) piece)
+unfolding pageBy
+page-continues zero room line good piece = stays line piece ending.Whole good
+page-continues (suc calls) room line good [] = stays line [] ending.Whole good
+page-continues (suc calls) room line good (byte ∷ piece) =
+    let feeding = feedOf line (byte ∷ piece) in
+    let rest = drop (feeding .taken) (byte ∷ piece) in
+    subst⁻¹ (λ fed. Continues line (byte ∷ piece) (rowThen (within room (rowFor (fed .heard))) (readerOf line) fed (λ size. pageBy calls (room - size) (fed .reader) (drop (fed .taken) (byte ∷ piece)))))
+    (fed-as line good (byte ∷ piece))
+    (row-continues line good (byte ∷ piece) room (λ size. pageBy calls (room - size) (readerOf (feeding .line)) rest) (λ size. page-continues calls (room - size) (feeding .line) (good-feed line (byte ∷ piece) good) rest))
+
+pub call-continues : (room : ℕ) (line : Line) → Good line → (piece : List ℕ) → Continues line piece (pageOf room (readerOf line) piece)
+call-continues room line good piece =
+    subst⁻¹ (Continues line piece) (page-good room (readerOf line) piece (reader-of-good line good)) (page-continues (length piece) room line good piece)
+
+-- any number of turns on one piece
+abbrev TurnsOn : Line → List ℕ → Turns → Type 0
+TurnsOn line piece turns = GoesOn line piece (turns .laid) (turns .reader) (turns .rest)
+
+pub turns-continue : (rooms : List ℕ) (line : Line) → Good line → (piece : List ℕ) → TurnsOn line piece (turnsWith rooms (readerOf line) piece)
+turns-continue [] line good piece = record { next = line; good = good; is = refl; rows = refl; ends = refl }
+turns-continue (room ∷ rooms) line good piece =
+    let page = pageOf room (readerOf line) piece in
+    let rest = drop (page .taken) piece in
+    let here = call-continues room line good piece in
+    let later = subst⁻¹ (λ reader. TurnsOn (here .next) rest (turnsWith rooms reader rest)) (here .is) (turns-continue rooms (here .next) (here .good) rest) in
+    record {
+      next = later .next;
+      good = later .good;
+      is = later .is;
+      rows =
+          here .rows
+          ∙ ap (_++_ (page .bytes)) (later .rows)
+          ∙ sym (append-assoc (page .bytes) (turnsWith rooms (page .reader) rest .laid) (rowsOf (eventsOf (later .next) (turnsWith rooms (page .reader) rest .rest))));
+      ends = here .ends ∙ later .ends;
+    }
+
+-- and a whole line
+append-none : (laid : List ℕ) → laid ++ [] ≡ laid
+append-none [] = refl
+append-none (byte ∷ laid) = ap (_∷_ byte) (append-none laid)
+
+pub line-listed : (lents : List Lent) (line : Line) (reader : Reader) → Good line → reader ≡ readerOf line → AllListed reader lents
+    → (rowsLaid reader lents ≡ rowsOf (eventsOf line (bytesLent lents))) × (readerLeft reader lents ≡ readerOf (lineAfter line (bytesLent lents)))
+line-listed [] line reader good is used = (refl, is)
+line-listed (lent ∷ others) line reader good is used =
+    let turns = turnsWith (lent .rooms) reader (lent .piece) in
+    let here = subst⁻¹ (λ r. TurnsOn line (lent .piece) (turnsWith (lent .rooms) r (lent .piece))) is (turns-continue (lent .rooms) line good (lent .piece)) in
+    let after : lineAfter line (lent .piece) ≡ here .next = here .ends ∙ ap (lineAfter (here .next)) (used .0) in
+    let laid : rowsOf (eventsOf line (lent .piece)) ≡ turns .laid =
+    here .rows ∙ ap (λ rest. turns .laid ++ rowsOf (eventsOf (here .next) rest)) (used .0) ∙ append-none (turns .laid) in
+    let on = line-listed others (lineAfter line (lent .piece)) (turns .reader) (good-after line (lent .piece) good) (here .is ∙ ap readerOf (sym after)) (used .1) in (
+      ap₂ _++_ (sym laid) (on .0)
+      ∙ sym (rows-join (eventsOf line (lent .piece)) (eventsOf (lineAfter line (lent .piece)) (bytesLent others)))
+      ∙ ap rowsOf (sym (events-join line (lent .piece) (bytesLent others))),
+      on .1 ∙ ap readerOf (sym (after-join line (lent .piece) (bytesLent others))),
+    )
+
+pub end-heard : (line : Line) → Good line → endReader (readerOf line) .heard ≡ lastHeard line
+unfolding endReader
+end-heard line good =
+    rw (reader-of-good line good)
+    (ap (λ held. heardFor (toldByEnd held) (startOf line)) (take-at (line .held) (replicate (24 - length (line .held)) 0) (length (line .held)) refl))
+
+pub what-is-laid : WhatIsLaidIsTheListing
+unfolding listingOf
+what-is-laid lents used =
+    let all = line-listed lents freshLine freshReader good-fresh fresh-is used in
+    let line = lineAfter freshLine (bytesLent lents) in
+    ap₂ (λ rows reader. headerRow ++ rows ++ rowOfEvent (endReader reader .heard) ++ strayRow (reader .stray)) (all .0) (all .1)
+    ∙ ap (λ heard. headerRow ++ rowsOf (eventsOf freshLine (bytesLent lents)) ++ rowOfEvent heard ++ strayRow (readerOf line .stray)) (end-heard line (good-after freshLine (bytesLent lents) good-fresh))

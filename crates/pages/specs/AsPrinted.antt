@@ -1,0 +1,24 @@
+-- Document 01, "Listing, whole": the printed example, input and listing, and the empty input.
+use mathlib.Core.List.{List, [], _∷_, _++_}
+use mathlib.Core.Path.{_≡_}
+use Prim.Native.Nat.{ℕ}
+use Rattle.ascii.specs.Ascii.{ascii}
+use Rattle.pages.specs.Whole.{listingOf}
+
+-- "`x`, STX `E3123456170496` LF CR ETX, STX `12`, end"
+abbrev pub printedInput : List ℕ
+printedInput = ascii "x" ++ 0x02 ∷ ascii "E3123456170496" ++ 0x0A ∷ 0x0D ∷ 0x03 ∷ 0x02 ∷ ascii "12"
+
+abbrev pub printedListing : List ℕ
+printedListing =
+    ascii "start;kind;date;time;weekday;status\n"
+    ++ ascii "1;6021;1996-04-17;12:34:56;3;high,daylight\n"
+    ++ ascii "19;refused 11\n"
+    ++ ascii "stray 1\n"
+
+-- "empty input gives the header and `stray 0`"
+abbrev pub emptyListing : List ℕ
+emptyListing = ascii "start;kind;date;time;weekday;status\n" ++ ascii "stray 0\n"
+
+abbrev pub TheListingIsAsPrinted : Type 0
+TheListingIsAsPrinted = (listingOf printedInput ≡ printedListing) × (listingOf [] ≡ emptyListing)

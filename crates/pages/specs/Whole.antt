@@ -1,0 +1,95 @@
+-- Document 01, "Listing, whole": the listing of a line, and a caller that lays it piece by piece.
+use mathlib.Core.List.{List, [], _∷_, _++_, map}
+use mathlib.Core.Path.{_≡_}
+use Prim.Native.Nat.{ℕ, _%_, _^_, _≤_}
+use Prim.{Unit}
+use lib.ListN.{length, drop, replicate}
+use Rattle.record.specs.declared.RecordAnswer.the-variants as answer
+use Rattle.line.specs.declared.Reader.{Reader}
+use Rattle.line.specs.declared.Heard.{Heard}
+use Rattle.line.specs.declared.Heard.the-variants.{Nothing, Event, Refused}
+use Rattle.line.specs.Line.{Line, freshLine, freshReader, toldByEnd, startOf, heardFor, endReader}
+use Rattle.line.specs.Cuts.{eventsOf, lineAfter}
+use Rattle.listing.specs.Listing.{headerRow, recordRow, refusedRow, strayRow}
+use Rattle.pages.specs.Pages.{pageOf}
+
+-- a row for each event: the record that was read, or the number that it was refused with
+abbrev pub rowOfEvent : Heard → List ℕ
+rowOfEvent Nothing = []
+rowOfEvent (Event (answer.Good rec) start size) = recordRow start rec
+rowOfEvent (Event (answer.Refused number) start size) = refusedRow start number
+rowOfEvent (Refused number) = []
+
+abbrev pub rowsOf : List Heard → List ℕ
+rowsOf [] = []
+rowsOf (heard ∷ others) = rowOfEvent heard ++ rowsOf others
+
+-- what the end of the line tells: 11 for the bytes held, if any
+abbrev pub lastHeard : Line → Heard
+lastHeard line = heardFor (toldByEnd (line .held)) (startOf line)
+
+-- the listing of a line: the header, a row for each event, the last event's row, if any, and the number of stray bytes, with its wrap
+unfoldable pub listingOf : List ℕ → List ℕ
+listingOf bytes =
+    headerRow
+    ++ rowsOf (eventsOf freshLine bytes)
+    ++ rowOfEvent (lastHeard (lineAfter freshLine bytes))
+    ++ strayRow (lineAfter freshLine bytes .stray % 2 ^ 32)
+
+-- A caller lists a piece in turns: each time what is left of it is lent again, with a buffer of some length.
+pub record Turns : Type 0 where
+  pub reader : Reader
+  pub rest : List ℕ
+  pub laid : List ℕ
+
+abbrev pub turnsWith : List ℕ → Reader → List ℕ → Turns
+turnsWith [] reader piece = record { reader = reader; rest = piece; laid = [] }
+turnsWith (room ∷ rooms) reader piece =
+    record {
+      reader = turnsWith rooms (pageOf room reader piece .reader) (drop (pageOf room reader piece .taken) piece) .reader;
+      rest = turnsWith rooms (pageOf room reader piece .reader) (drop (pageOf room reader piece .taken) piece) .rest;
+      laid = pageOf room reader piece .bytes ++ turnsWith rooms (pageOf room reader piece .reader) (drop (pageOf room reader piece .taken) piece) .laid;
+    }
+
+-- a piece, and the lengths of the buffers that are lent for it
+pub record Lent : Type 0 where
+  pub piece : List ℕ
+  pub rooms : List ℕ
+
+-- the bytes of the line, the rows laid, the reader behind them; and that each piece was used up
+abbrev pub bytesLent : List Lent → List ℕ
+bytesLent [] = []
+bytesLent (lent ∷ others) = lent .piece ++ bytesLent others
+
+abbrev pub rowsLaid : Reader → List Lent → List ℕ
+rowsLaid reader [] = []
+rowsLaid reader (lent ∷ others) =
+    turnsWith (lent .rooms) reader (lent .piece) .laid ++ rowsLaid (turnsWith (lent .rooms) reader (lent .piece) .reader) others
+
+abbrev pub readerLeft : Reader → List Lent → Reader
+readerLeft reader [] = reader
+readerLeft reader (lent ∷ others) = readerLeft (turnsWith (lent .rooms) reader (lent .piece) .reader) others
+
+abbrev pub AllListed : Reader → List Lent → Type 0
+AllListed reader [] = Unit
+AllListed reader (lent ∷ others) =
+    (turnsWith (lent .rooms) reader (lent .piece) .rest ≡ []) × AllListed (turnsWith (lent .rooms) reader (lent .piece) .reader) others
+
+-- what is laid for a line in all: by `header`, by `list` for each piece, by `row_for` at the end, by `stray_line`
+abbrev pub allLaid : List Lent → List ℕ
+allLaid lents =
+    headerRow
+    ++ rowsLaid freshReader lents
+    ++ rowOfEvent (endReader (readerLeft freshReader lents) .heard)
+    ++ strayRow (readerLeft freshReader lents .stray)
+
+-- However a line is cut, and whatever buffers are lent: what is laid, one behind another, is the listing of the line.
+abbrev pub WhatIsLaidIsTheListing : Type 0
+WhatIsLaidIsTheListing = (lents : List Lent) → AllListed freshReader lents → allLaid lents ≡ listingOf (bytesLent lents)
+
+-- Every cut can be listed so: with buffers that hold the longest row, as many turns as a piece has bytes use it up.
+abbrev pub lentWith : ℕ → List ℕ → Lent
+lentWith room piece = record { piece = piece; rooms = replicate (length piece) room }
+
+abbrev pub EveryCutCanBeListed : Type 0
+EveryCutCanBeListed = (room : ℕ) → 69 ≤ room → (pieces : List (List ℕ)) → AllListed freshReader (map (lentWith room) pieces)
