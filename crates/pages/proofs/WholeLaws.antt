@@ -2,7 +2,7 @@
 use mathlib.Core.Path.{_≡_, refl, ap, ap₂, sym, _∙_, subst, subst⁻¹}
 use mathlib.Core.Bool.{Bool, true, false, cond}
 use mathlib.Core.List.{List, [], _∷_, _++_, append-assoc}
-use Prim.Native.Nat.{ℕ, zero, suc, _+_, _-_}
+use Prim.Native.Nat.{ℕ, zero, suc, _+_, _-_, _^_, _<_}
 use Prim.{Unit, tt}
 use native.Mathlib.Omega.{arith}
 use lib.Dec.{leb, ltb, eqb}
@@ -10,6 +10,7 @@ use lib.ListN.{length, drop, replicate}
 use lib.Seq.{drop-drop, take-at}
 use Rattle.refusals.specs.Refusals.{Outcome, done, refused}
 use Rattle.refusals.proofs.Laws.{does}
+use Rattle.record.specs.declared.Record.{Record}
 use Rattle.record.specs.Rule.{refusalOf}
 use Rattle.telegram.specs.Reading.{readOf}
 use Rattle.telegram.proofs.BackAndForth.{accepted-is-written}
@@ -27,23 +28,24 @@ use Rattle.pages.specs.declared.Ending.{Ending}
 use Rattle.pages.specs.declared.Ending.the-variants as ending
 use Rattle.pages.specs.Pages.{rowFor, within, Page, stopped, rowThen, ifAny, pageBy, pageOf}
 use Rattle.pages.specs.Whole.{rowOfEvent, rowsOf, lastHeard, listingOf, Turns, turnsWith, Lent, bytesLent, rowsLaid, readerLeft, AllListed, WhatIsLaidIsTheListing}
+use Rattle.pages.proofs.NumberLaws.{read-number}
 use Rattle.pages.proofs.PageLaws.{page-good}
 
--- a record that the line hands out is good
+-- a record that the line hands out is good, and a number that it gives is a byte
 abbrev pub Sound : Told → Type 0
 Sound nothing = Unit
 Sound (event (done rec) size) = refusalOf rec ≡ 0
-Sound (event (refused n) size) = Unit
+Sound (event (refused n) size) = n < 2 ^ 8
 
-sound-read : (bytes : List ℕ) (size : ℕ) (outcome : _) → readOf true bytes ≡ outcome → Sound (event outcome size)
+sound-read : (bytes : List ℕ) (size : ℕ) (outcome : Outcome Record) → readOf true bytes ≡ outcome → Sound (event outcome size)
 sound-read bytes size (done rec) e = accepted-is-written true bytes rec e .is-good
-sound-read bytes size (refused n) e = tt
+sound-read bytes size (refused n) e = omega (arith, read-number true bytes n e)
 
 sound-inside : (bytes : List ℕ) (size held longest : ℕ) (etx stx full : Bool)
     → Sound (cond etx (event (readOf true bytes) size) (cond stx (event (refused 9) held) (cond full (event (refused 10) longest) nothing)))
 sound-inside bytes size held longest true stx full = sound-read bytes size (readOf true bytes) refl
-sound-inside bytes size held longest false true full = tt
-sound-inside bytes size held longest false false true = tt
+sound-inside bytes size held longest false true full = omega arith
+sound-inside bytes size held longest false false true = omega arith
 sound-inside bytes size held longest false false false = tt
 
 sound-told : (held : List ℕ) (byte : ℕ) → Sound (toldBy held byte)
@@ -65,7 +67,7 @@ row-told nothing at sound = refl
 row-told (event (done rec) size) at sound = does (recordRow at rec) sound
 row-told (event (refused n) size) at sound = refl
 
-rows-then : (heard : Heard) (later : List Heard) → rowsOf (heardThen heard later) ≡ rowOfEvent heard ++ rowsOf later
+pub rows-then : (heard : Heard) (later : List Heard) → rowsOf (heardThen heard later) ≡ rowOfEvent heard ++ rowsOf later
 rows-then Nothing later = refl
 rows-then (Event answer start size) later = refl
 rows-then (Refused number) later = refl

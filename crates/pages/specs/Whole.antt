@@ -1,8 +1,10 @@
 -- Document 01, "Listing, whole": the listing of a line, and a caller that lays it piece by piece.
+use mathlib.Core.Bool.{cond}
 use mathlib.Core.List.{List, [], _∷_, _++_, map}
 use mathlib.Core.Path.{_≡_}
 use Prim.Native.Nat.{ℕ, _%_, _^_, _≤_}
 use Prim.{Unit}
+use lib.Dec.{ltb}
 use lib.ListN.{length, drop, replicate}
 use Rattle.record.specs.declared.RecordAnswer.the-variants as answer
 use Rattle.line.specs.declared.Reader.{Reader}
@@ -11,6 +13,8 @@ use Rattle.line.specs.declared.Heard.the-variants.{Nothing, Event, Refused}
 use Rattle.line.specs.Line.{Line, freshLine, freshReader, toldByEnd, startOf, heardFor, endReader}
 use Rattle.line.specs.Cuts.{eventsOf, lineAfter}
 use Rattle.listing.specs.Listing.{headerRow, recordRow, refusedRow, strayRow}
+use Rattle.pages.specs.declared.Ending.{Ending}
+use Rattle.pages.specs.declared.Ending.the-variants as ending
 use Rattle.pages.specs.Pages.{pageOf}
 
 -- a row for each event: the record that was read, or the number that it was refused with
@@ -93,3 +97,7 @@ lentWith room piece = record { piece = piece; rooms = replicate (length piece) r
 
 abbrev pub EveryCutCanBeListed : Type 0
 EveryCutCanBeListed = (room : ℕ) → 69 ≤ room → (pieces : List (List ℕ)) → AllListed freshReader (map (lentWith room) pieces)
+
+-- 13 is given exactly where the lent buffer is shorter than the rows of the piece
+abbrev pub endingIn : ℕ → List ℕ → Ending
+endingIn room rows = cond (ltb room (length rows)) (ending.Refused 13) ending.Whole
