@@ -1,6 +1,13 @@
-// Lists a captured line: standard input to its end, in pieces as they come, and the listing on standard output.
+// Lists a captured line: a file that is named, or standard input, to its end, in pieces as they come. The listing goes to standard
+// output; what went wrong is told on standard error.
+mod words;
+
+use libc::STDERR_FILENO;
 use libc::STDIN_FILENO;
+use libc::STDOUT_FILENO;
+use printing::Output;
 use printing::Printer;
+use words::Asked;
 
 // The printer, and whether there may be more to read.
 struct Turn {
@@ -8,11 +15,30 @@ struct Turn {
     more: bool,
 }
 
+fn is_whole(output: Output) -> bool {
+    match output {
+        Output::Whole => true,
+        Output::Failed => false,
+        Output::Refused(_) => false,
+    }
+}
+
+// Told right after the write that failed, so that errno is that write's.
+fn tell(output: Output) {
+    match output {
+        Output::Whole => {}
+        Output::Failed => os::fail(b"dialspark: the listing cannot be written"),
+        Output::Refused(_) => {
+            io::write_all(STDERR_FILENO, b"dialspark: the listing was refused\n");
+        }
+    }
+}
+
 // A read that a signal broke off is made again; any other failure ends the listing, which then has no count of stray bytes.
 fn failed(printer: Printer) -> Turn {
     let again = os::errno() == libc::EINTR;
     if !again {
-        os::fail(b"dialspark: standard input cannot be read");
+        os::fail(b"dialspark: the capture cannot be read");
     }
     Turn {
         printer: printer,
@@ -21,9 +47,9 @@ fn failed(printer: Printer) -> Turn {
 }
 
 // One read, of as many bytes as are there.
-fn next(printer: Printer) -> Turn {
+fn next(capture: i32, printer: Printer) -> Turn {
     let mut piece = io::buffer();
-    let got = libc::read(STDIN_FILENO, &mut piece);
+    let got = libc::read(capture, &mut piece);
     if got < 0 {
         return failed(printer);
     }
@@ -35,21 +61,51 @@ fn next(printer: Printer) -> Turn {
     }
     let count = io::count(got, &piece);
     let after = printer.piece(&piece[..count]);
+    let output = after.output;
     Turn {
         printer: after,
-        more: after.is_written,
+        more: is_whole(output),
     }
 }
 
 // Nothing says that the input ends, so the turns are counted down from a number that no run uses up.
-fn main() {
+fn list(capture: i32) {
     let mut printer = Printer::start();
-    let mut more = printer.is_written;
+    let output = printer.output;
+    let mut more = is_whole(output);
     let mut turns = u64::MAX;
     while turns > 0 && more {
-        let turn = next(printer);
+        let turn = next(capture, printer);
         printer = turn.printer;
         more = turn.more;
         turns -= 1;
+    }
+    let left = printer.output;
+    tell(left);
+}
+
+fn list_file(name: &[u8]) {
+    let capture = os::open_read(name);
+    if capture < 0 {
+        os::fail(name);
+        words::usage(STDERR_FILENO);
+        return;
+    }
+    list(capture);
+    libc::close(capture);
+}
+
+fn list_named(place: usize) {
+    let mut name = io::buffer();
+    let length = os::arg(place, &mut name);
+    list_file(&name[..length]);
+}
+
+fn main() {
+    match words::read() {
+        Asked::Listing => list(STDIN_FILENO),
+        Asked::File(place) => list_named(place),
+        Asked::Help => words::usage(STDOUT_FILENO),
+        Asked::Nothing => words::usage(STDERR_FILENO),
     }
 }

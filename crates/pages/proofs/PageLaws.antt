@@ -83,7 +83,7 @@ within-fits (refused number) room row e = let z : _≡_ {A = ℕ} 0 1 = cc in ab
 pub page-some : (calls room : ℕ) (reader : Reader) (piece : List ℕ) → 0 < length piece
     → pageBy (suc calls) room reader piece
     ≡ rowThen (within room (rowFor (feedReader reader piece .heard))) reader (feedReader reader piece)
-      (λ size. pageBy calls (room - size) (feedReader reader piece .reader) (drop (feedReader reader piece .taken) piece))
+    (λ size. pageBy calls (room - size) (feedReader reader piece .reader) (drop (feedReader reader piece .taken) piece))
 unfolding pageBy
 page-some calls room reader [] some = absurd (omega arith)
 page-some calls room reader (byte ∷ piece) some = refl
@@ -257,3 +257,26 @@ page-refused room reader piece bad = rw bad
 pub page-good : (room : ℕ) (reader : Reader) (piece : List ℕ) → wellFormed reader ≡ true → pageOf room reader piece ≡ pageBy (length piece) room reader piece
 unfolding pageOf
 page-good room reader piece good = rw good
+
+-- no more is taken than there is
+row-takes : (outcome : Outcome (List ℕ)) (reader : Reader) (fed : Fed) (later : ℕ → Page) (size : ℕ) → ((n : ℕ) → fed .taken + later n .taken ≤ size)
+    → rowThen outcome reader fed later .taken ≤ size
+row-takes (done row) reader fed later size fits = fits (length row)
+row-takes (refused number) reader fed later size fits = omega arith
+
+page-takes : (calls room : ℕ) (reader : Reader) (piece : List ℕ) → pageBy calls room reader piece .taken ≤ length piece
+unfolding pageBy
+page-takes zero room reader piece = omega arith
+page-takes (suc calls) room reader [] = omega arith
+page-takes (suc calls) room reader (byte ∷ piece) =
+    let fed = feedReader reader (byte ∷ piece) in
+    row-takes (within room (rowFor (fed .heard))) reader fed (λ size. pageBy calls (room - size) (fed .reader) (drop (fed .taken) (byte ∷ piece))) (length (byte ∷ piece))
+    (λ n. omega (arith, feed-fits reader (byte ∷ piece), page-takes calls (room - n) (fed .reader) (drop (fed .taken) (byte ∷ piece)), length-drop (fed .taken) (byte ∷ piece)))
+
+pub call-takes : (room : ℕ) (reader : Reader) (piece : List ℕ) → pageOf room reader piece .taken ≤ length piece
+unfolding pageOf
+call-takes room reader piece = go (wellFormed reader)
+  where
+    go : (good : Bool) → cond good (pageBy (length piece) room reader piece) (stopped reader (ending.Refused 15)) .taken ≤ length piece
+    go true = page-takes (length piece) room reader piece
+    go false = omega arith

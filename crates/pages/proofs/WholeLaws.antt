@@ -179,8 +179,8 @@ line-listed (lent ∷ others) line reader good is used =
     here .rows ∙ ap (λ rest. turns .laid ++ rowsOf (eventsOf (here .next) rest)) (used .0) ∙ append-none (turns .laid) in
     let on = line-listed others (lineAfter line (lent .piece)) (turns .reader) (good-after line (lent .piece) good) (here .is ∙ ap readerOf (sym after)) (used .1) in (
       ap₂ _++_ (sym laid) (on .0)
-      ∙ sym (rows-join (eventsOf line (lent .piece)) (eventsOf (lineAfter line (lent .piece)) (bytesLent others)))
-      ∙ ap rowsOf (sym (events-join line (lent .piece) (bytesLent others))),
+          ∙ sym (rows-join (eventsOf line (lent .piece)) (eventsOf (lineAfter line (lent .piece)) (bytesLent others)))
+          ∙ ap rowsOf (sym (events-join line (lent .piece) (bytesLent others))),
       on .1 ∙ ap readerOf (sym (after-join line (lent .piece) (bytesLent others))),
     )
 

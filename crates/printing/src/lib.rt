@@ -1,134 +1,187 @@
-// The listing on standard output: each row is written when its event has come.
+// The listing on standard output: each row is handed on when its event has come.
 use libc::STDOUT_FILENO;
+use line::Heard;
 use line::Reader;
-use line::pieces::Slot;
-use line::pieces::use_up;
 use listing::RowAnswer;
-use refusals::NONE;
+use refusals::STATE_ILL_FORMED;
 ghost use mathlib.Core.Path.{_≡_};
-ghost use Rattle.line.specs.Line.{freshReader, endReader};
-ghost use Rattle.printing.specs.Printing.{afterPiece};
+ghost use Prim.Native.Nat.{min};
+ghost use Rattle.line.specs.Line.{freshReader, wellFormed, endReader};
+ghost use Rattle.pages.specs.Pages.{pageOf};
+ghost use Rattle.printing.specs.Printing.{afterPiece, Handed, Printed};
 
-// The reader of the line so far, and whether everything went out. Where something did not, standard error says so, and nothing
-// more is written.
+// How the output stands. Once it is not whole, nothing more is written.
+pub enum Output {
+    Whole,
+    // A write did not go through; errno says why.
+    Failed,
+    // Something was refused with this number.
+    Refused(u8),
+}
+
+// The reader of the line so far, and how the output stands.
 pub struct Printer {
     pub reader: Reader,
-    pub is_written: bool,
+    pub output: Output,
+}
+
+// Room for the rows that are written at once.
+const PAGE: usize = 4096;
+
+// Room for a single row.
+const ROW: usize = 80;
+
+// What was taken of a piece, and whether its rows went out.
+struct Sheet {
+    reader: Reader,
+    taken: usize,
+    is_written: bool,
+}
+
+fn smaller(a: usize, b: usize) -> usize
+    ensures { λ r. ⌜ r ≡ min a b ⌝ }
+{
+    if a < b {
+        return a;
+    }
+    b
 }
 
 // Writes the first bytes of a buffer.
 fn print(out: &[u8], count: usize) -> bool {
-    if out.len() < count {
-        return false;
-    }
-    if io::write_all(STDOUT_FILENO, &out[0..count]) {
-        return true;
-    }
-    os::fail(b"dialspark: the listing cannot be written");
-    false
+    let end = smaller(count, out.len());
+    io::write_all(STDOUT_FILENO, &out[0..end])
 }
 
-fn print_row(made: RowAnswer, out: &[u8]) -> bool {
+fn print_row(made: RowAnswer, out: &[u8]) -> Output {
     match made {
-        RowAnswer::Written(count) => print(out, count),
-        RowAnswer::Refused(_) => false,
+        RowAnswer::Written(count) => {
+            if print(out, count) {
+                return Output::Whole;
+            }
+            Output::Failed
+        }
+        RowAnswer::Refused(number) => Output::Refused(number),
     }
 }
 
-fn print_header() -> bool {
-    let mut out = [0u8; 80];
+fn print_header() -> Output {
+    let mut out = [0u8; ROW];
     let made = listing::rows::header(&mut out);
     print_row(made, &out)
 }
 
-fn print_stray(stray: u32) -> bool {
-    let mut out = [0u8; 80];
+fn print_stray(stray: u32) -> Output {
+    let mut out = [0u8; ROW];
     let made = listing::rows::stray_line(stray, &mut out);
     print_row(made, &out)
 }
 
-// The rows of a piece in one write. There is room for 32 rows, of which none has more than 69 bytes.
-fn print_rows(slots: [Slot; 32], count: usize) -> bool {
-    if count == 0 {
-        return true;
-    }
-    let mut out = [0u8; 2208];
-    let page = pages::rows(slots, count, &mut out);
-    if page.refusal != NONE {
-        return false;
-    }
-    print(&out, page.used)
-}
-
-// The last event of a line, if any, and the line with the count of stray bytes.
-fn print_end(reader: Reader) -> bool {
-    let ended = reader.end();
-    let heard = ended.heard;
-    let mut out = [0u8; 80];
+// The last event's row, if there is one, and the line with the count of stray bytes.
+fn print_last(heard: Heard, stray: u32) -> Output {
+    let mut out = [0u8; ROW];
     let made = pages::row_for(heard, &mut out);
-    if !print_row(made, &out) {
-        return false;
+    match print_row(made, &out) {
+        Output::Whole => print_stray(stray),
+        Output::Failed => Output::Failed,
+        Output::Refused(number) => Output::Refused(number),
     }
-    print_stray(reader.stray)
 }
 
-fn and_rows(is_written: bool, slots: [Slot; 32], count: usize) -> bool {
-    if !is_written {
-        return false;
+// The rows of as much of a piece as one buffer takes.
+fn print_page(reader: Reader, piece: &[u8]) -> Sheet
+    ensures { λ r. ⌜ (r .reader ≡ pageOf 4096 reader (now (piece .entry)) .reader) × (r .taken ≡ pageOf 4096 reader (now (piece .entry)) .taken) ⌝ }
+{
+    let mut out = [0u8; PAGE];
+    let listed = pages::list(reader, piece, &mut out);
+    let next = listed.reader;
+    Sheet {
+        reader: next,
+        taken: listed.taken,
+        is_written: print(&out, listed.used),
     }
-    print_rows(slots, count)
 }
 
-fn and_end(is_written: bool, reader: Reader) -> bool {
-    if !is_written {
-        return false;
+// Uses a piece up, page by page.
+fn print_piece(reader: Reader, piece: &[u8]) -> Printer
+    ensures { λ r. ⌜ Handed (wellFormed reader) reader (afterPiece reader (now (piece .entry))) r ⌝ }
+{
+    if !reader.is_well_formed() {
+        return Printer {
+            reader: reader,
+            output: Output::Refused(STATE_ILL_FORMED),
+        };
     }
-    print_end(reader)
+    let length = piece.len();
+    let mut next = reader;
+    let mut at: usize = 0;
+    while at < length {
+        let sheet = print_page(next, &piece[at..length]);
+        next = sheet.reader;
+        at += sheet.taken;
+        if !sheet.is_written {
+            return Printer {
+                reader: next,
+                output: Output::Failed,
+            };
+        }
+    }
+    Printer {
+        reader: next,
+        output: Output::Whole,
+    }
+}
+
+fn print_end(reader: Reader) -> Printer
+    ensures { λ r. ⌜ Handed (wellFormed reader) reader (endReader reader .reader) r ⌝ }
+{
+    if !reader.is_well_formed() {
+        return Printer {
+            reader: reader,
+            output: Output::Refused(STATE_ILL_FORMED),
+        };
+    }
+    let ended = reader.end();
+    let next = ended.reader;
+    let heard = ended.heard;
+    Printer {
+        reader: next,
+        output: print_last(heard, reader.stray),
+    }
 }
 
 impl Printer {
+    // A fresh reader; the header is written.
     pub fn start() -> Printer
         ensures { λ r. ⌜ r .reader ≡ freshReader ⌝ }
     {
         Printer {
             reader: Reader::fresh(),
-            is_written: print_header(),
+            output: print_header(),
         }
     }
 
-    // Uses a piece up.
+    // Uses a piece up, and writes the rows of its events.
     pub fn piece(self, piece: &[u8]) -> Printer
-        ensures { λ r. ⌜ r .reader ≡ afterPiece (self .reader) (now (piece .entry)) ⌝ }
+        ensures { λ r. ⌜ Printed (self .output) (self .reader) (afterPiece (self .reader) (now (piece .entry))) r ⌝ }
     {
-        let length = piece.len();
-        let mut reader = self.reader;
-        if !reader.is_well_formed() {
-            return self;
-        }
-        let mut is_written = self.is_written;
-        let mut at: usize = 0;
-        while at < length {
-            let passed = use_up(reader, &piece[at..length]);
-            let slots = passed.slots;
-            is_written = and_rows(is_written, slots, passed.count);
-            reader = passed.reader;
-            at += passed.taken;
-        }
-        Printer {
-            reader: reader,
-            is_written: is_written,
+        let output = self.output;
+        match output {
+            Output::Whole => print_piece(self.reader, piece),
+            Output::Failed => self,
+            Output::Refused(_) => self,
         }
     }
 
-    // The end of the line.
+    // Ends the line: the last event's row, if there is one, and the count of stray bytes are written.
     pub fn end(self) -> Printer
-        ensures { λ r. ⌜ r .reader ≡ endReader (self .reader) .reader ⌝ }
+        ensures { λ r. ⌜ Printed (self .output) (self .reader) (endReader (self .reader) .reader) r ⌝ }
     {
-        let ended = self.reader.end();
-        let reader = ended.reader;
-        Printer {
-            reader: reader,
-            is_written: and_end(self.is_written, self.reader),
+        let output = self.output;
+        match output {
+            Output::Whole => print_end(self.reader),
+            Output::Failed => self,
+            Output::Refused(_) => self,
         }
     }
 }

@@ -1,17 +1,20 @@
--- `dialspark::main` is safe and ends. The measure is the number of turns that are left.
+-- `dialspark::list` is safe and ends. The measure is the number of turns that are left.
 use native.Mathlib.Omega.{arith}
 use borrow.Author.Needs.{needs}
-use Rattle.dialspark.proofs.main.Statement.{statement}
-use Rattle.dialspark.proofs.main.Tie as tie
+use Rattle.dialspark.proofs.list.Statement.{statement}
+use Rattle.dialspark.proofs.list.Tie as tie
 
 abbrev Inv-loop : tie.InvT-loop
-Inv-loop printer₀ more₀ turns₀ printer more turns = Unit {0}
+Inv-loop capture printer₀ more₀ turns₀ printer more turns = Unit {0}
 
 abbrev μ-loop : tie.MeasureT-loop
-μ-loop printer₀ more₀ turns₀ printer more turns = turns
+μ-loop capture printer₀ more₀ turns₀ printer more turns = turns
 
 start-requires : tie.Need-start-requires Inv-loop μ-loop
 start-requires c κs = search needs
+
+is-whole-requires : tie.Need-is-whole-requires Inv-loop μ-loop
+is-whole-requires c κs = search needs
 
 loop-holds : tie.Need-loop-holds Inv-loop μ-loop
 loop-holds c = tt
@@ -28,23 +31,24 @@ loop-less c = omega arith
 loop-again : tie.Need-loop-again Inv-loop μ-loop
 loop-again c = tt
 
+tell-requires : tie.Need-tell-requires Inv-loop μ-loop
+tell-requires c κs = search needs
+
 returns : tie.Need-returns Inv-loop μ-loop
 returns c = tt
 
-returns-2 : tie.Need-returns-2 Inv-loop μ-loop
-returns-2 c = tt
-
-pub main-spec : {M : Type 1} → statement M
-main-spec =
+pub list-spec : {M : Type 1} → statement M
+list-spec =
     tie.close
     (tie.spec
     Inv-loop
     μ-loop
     start-requires
+    is-whole-requires
     loop-holds
     next-requires
     sub-turns
     loop-less
     loop-again
-    returns
-    returns-2)
+    tell-requires
+    returns)
