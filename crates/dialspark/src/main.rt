@@ -87,6 +87,7 @@ fn list(capture: i32) {
 fn list_file(name: &[u8]) {
     let capture = os::open_read(name);
     if capture < 0 {
+        io::write_all(STDERR_FILENO, b"dialspark: ");
         os::fail(name);
         words::usage(STDERR_FILENO);
         return;
