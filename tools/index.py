@@ -23,7 +23,7 @@ import sys
 import tree
 
 TABLES = ["DOCUMENT-01.md", "DOCUMENT-02.md"]
-PROSE = []
+PROSE = ["USE.md"]
 NOT_YET = "not yet"
 NAME = re.compile(r"`([^`]+)`")
 DECLARED = re.compile(r"^(?:pub(?:\([\w:]+\))? )?(?:struct|enum|const|static|type) (\w+)", re.M)
