@@ -118,6 +118,16 @@ class Crate:
             if inner.exists():
                 self.visit(inner, below / name, f"{module}::{name}", is_open and visible == "pub ")
 
+    def declared(self):
+        """The types that the crate declares, by their paths, each with its text."""
+        types = {}
+        for module, source in self.modules.items():
+            text = without_comments(text_of(source))
+            for found in TYPE.finditer(text):
+                opening = re.compile(r"[^;{(]*").match(text, found.end()).end()
+                types[f"{module}::{found.group(2)}"] = squeezed(text[found.start():closing(text, opening)].split("\n"))
+        return types
+
     def is_reachable(self, function):
         """Whether a `pub fn` can be named from outside its crate."""
         if function.module not in self.open:
