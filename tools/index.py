@@ -23,7 +23,7 @@ import sys
 import tree
 
 TABLES = ["DOCUMENT-01.md", "DOCUMENT-02.md"]
-PROSE = ["USE.md"]
+PROSE = ["USE.md", "HOW-TO-CHANGE.md"]
 NOT_YET = "not yet"
 NAME = re.compile(r"`([^`]+)`")
 DECLARED = re.compile(r"^(?:pub(?:\([\w:]+\))? )?(?:struct|enum|const|static|type) (\w+)", re.M)
