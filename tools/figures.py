@@ -1,10 +1,11 @@
 #!/usr/bin/env python3
-"""Prints how large each crate is: functions, lines of code, of definitions and of proofs, and must-fail edits.
+"""Prints how large each crate is: functions, lines of code, of definitions and of proofs, and must-fail edits; and the kit's identity.
 
 Blank lines and comments are not counted.
 """
 import pathlib
 import re
+import subprocess
 
 ROOT = pathlib.Path(__file__).resolve().parent.parent
 FUNCTION = re.compile(r"^\s*(pub(\(\w+\))? )?fn ", re.M)
@@ -36,6 +37,7 @@ def main():
     print(f"{'':12}{'functions':>10}{'code':>8}{'definitions':>13}{'proofs':>8}{'edits':>7}")
     for name, (functions, code, definitions, proofs, edits) in rows:
         print(f"{name:12}{functions:10}{code:8}{definitions:13}{proofs:8}{edits:7}")
+    print(subprocess.run(["rt", "version"], check=True, capture_output=True, text=True).stdout.strip())
 
 
 if __name__ == "__main__":
