@@ -13,9 +13,11 @@ of each row names one thing or more, in backticks, and each must be there:
 
 In docs/DOCUMENT-02.md a row may be `not yet` in its place.
 
-Other pages of docs/ may name such things too, and each path in backticks that begins with a folder of the tree must be there. A block
-of lines that names a file behind its language, as ```rust crates/cases/src/telegrams.rt, is a quotation: its lines stand in that
-file, one behind another, whatever their indentation. A line `..` in it stands for lines that are left out.
+Of the pages in PROSE each path in backticks that begins with a folder of the tree, each path of a function and each theorem as
+`File.name` must be there.
+
+On any page a block of lines that names a file behind its language, as ```rust crates/cases/src/telegrams.rt, is a quotation: its
+lines stand in that file, one behind another, whatever their indentation. A line `..` in it stands for lines that are left out.
 """
 import re
 import sys
@@ -83,15 +85,26 @@ def table_faults(page, names):
                 yield f"{where} names {name}, which is not there"
 
 
+def without_blocks(text):
+    """A page without its blocks of lines, so that places stay."""
+    return re.sub(r"^```.*?^```$", lambda found: "\n" * found.group().count("\n"), text, flags=re.M | re.S)
+
+
 def prose_faults(page, names):
-    """Paths and functions that are named and are not there."""
+    """Paths, functions and theorems (`File.name`) that are named and are not there."""
     folders = {path.name for path in tree.ROOT.iterdir() if path.is_dir()} - {"target"}
     crates = set(tree.crates())
-    for number, line in enumerate(re.sub(r"^```.*?^```$", lambda found: "\n" * found.group().count("\n"), tree.text_of(tree.ROOT / "docs" / page), flags=re.M | re.S).split("\n"), 1):
+    items = {name.split("/")[-1] for name in names.there if "/specs/" in name or "/proofs/" in name}
+    for number, line in enumerate(without_blocks(tree.text_of(tree.ROOT / "docs" / page)).split("\n"), 1):
         for name in NAME.findall(line):
-            is_path = re.fullmatch(r"[\w./-]+", name) and "/" in name and name.split("/")[0] in folders
-            is_function = re.fullmatch(r"\w+(::\w+)+", name) and name.split("::")[0] in crates
-            if is_path and not (tree.ROOT / name).exists() and not names.has(name) or is_function and not names.has(name):
+            gone = False
+            if re.fullmatch(r"[\w./-]+", name) and "/" in name and name.split("/")[0] in folders:
+                gone = not (tree.ROOT / name).exists() and not names.has(name)
+            elif re.fullmatch(r"\w+(::\w+)+", name) and name.split("::")[0] in crates:
+                gone = not names.has(name)
+            elif re.fullmatch(r"[A-Z]\w*\.[^\s.]+", name) and not name.endswith((".antt", ".md")):
+                gone = name not in items
+            if gone:
                 yield f"docs/{page}:{number} names {name}, which is not there"
 
 
