@@ -5,7 +5,7 @@ use calendar::date::DateAnswer;
 use calendar::date::DayAnswer;
 use clock::Clock;
 use clock::StepAnswer;
-use record::utc::UtcAnswer;
+use record::season::UtcAnswer;
 
 pub(crate) fn next_second(bytes: &[u8]) {
     outputs::print_answer(record::next::next_second(inputs::rec(bytes)));

@@ -1,24 +1,27 @@
--- Laws of what stepping keeps: the layout and the status with the season, and so the distance of local time from UTC. Assumes nothing.
+-- Laws of what stepping keeps: the layout and the status with the season, and so the distance of its count from UTC. Assumes nothing.
 use mathlib.Core.Path.{_≡_, refl, ap, sym, _∙_}
 use mathlib.Core.Bool.{Bool, true, false, not, cond}
-use Prim.Native.Nat.{ℕ, zero, suc, _+_, _-_, _<_, _≤_}
+use Prim.Native.Nat.{ℕ, zero, suc, _+_, _<_}
 use native.Mathlib.Omega.{arith}
-use lib.Dec.{ltb}
-use borrow.Author.Tests.{ltb-false, le-ltb}
 use Rattle.refusals.specs.Refusals.{_when_, _else_, Outcome, done, refused, unless, after}
-use Rattle.refusals.proofs.Laws.{was-done, does, when-none}
+use Rattle.refusals.proofs.Laws.{was-done}
 use Rattle.calendar.specs.Calendar.{dayAfter}
 use Rattle.calendar.specs.TimeOfDay.{isLastSecond, timeAfter}
 use Rattle.record.specs.declared.Status.{Status}
 use Rattle.record.specs.declared.Record.{Record}
 use Rattle.record.specs.declared.Record.the-variants.{Dated, TimeOnly}
-use Rattle.record.specs.Rule.{refusalOf}
+use Rattle.record.specs.declared.season.UtcSeconds.{UtcSeconds}
+use Rattle.record.specs.declared.season.Count.{Count}
+use Rattle.record.specs.Season.{secondsLater, secondsIn, calendarSeconds}
+use Rattle.record.specs.Rule.{refusalOf, carriesDate}
 use Rattle.record.specs.Next.{weekdayAfter, recordAfter, isLastOfCalendar, nextSecondOf}
-use Rattle.record.specs.Utc.{seasonShift, localSeconds, toUtc, utcSeconds}
+use Rattle.record.specs.Utc.{countOf, inUtc, utcSeconds}
+use Rattle.record.proofs.UtcLaws.{seconds-in-later, count-within, had-count, utc-later}
+use Rattle.record.proofs.NextLaws.{next-is-later}
 use Rattle.clock.specs.declared.Clock.{Clock}
-use Rattle.clock.specs.Stepping.{carriesDate, clockSecond, steppedBy, stepOf}
-use Rattle.clock.specs.Running.{stepped, calendarSeconds, dated, lasting}
-use Rattle.clock.proofs.RunLaws.{steps-add-local-seconds}
+use Rattle.clock.specs.declared.StepAnswer.the-variants as answer
+use Rattle.clock.specs.Stepping.{clockSecond, steppedBy, stepOf}
+use Rattle.clock.specs.Running.{stepped, StepsAddAsManyUtcSeconds, dated, lasting, SteppingDoesNotChangeTheSeason}
 
 -- a clock's second is the record's next second
 second-is-next : (rec next : Record) → clockSecond rec ≡ done next → nextSecondOf rec ≡ done next
@@ -46,8 +49,8 @@ standing-next rec next e =
     let made = was-done (refusalOf rec else 12 when isLastOfCalendar rec) (recordAfter rec) next e in
     ap lasting (sym (made .1)) ∙ standing-after rec
 
--- "stepping does not change the season", nor anything else of the status, nor the layout
-pub lasting-stays : (clock : Clock) → lasting (stepOf clock .clock .rec) ≡ lasting (clock .rec)
+-- one step
+lasting-stays : (clock : Clock) → lasting (stepOf clock .clock .rec) ≡ lasting (clock .rec)
 unfolding stepOf
 lasting-stays clock = go (clockSecond (clock .rec)) refl
   where
@@ -55,39 +58,44 @@ lasting-stays clock = go (clockSecond (clock .rec)) refl
     go (done next) e = standing-next (clock .rec) next (second-is-next (clock .rec) next e)
     go (refused n) e = refl
 
--- "stepping does not change the season", however often
-pub lasting-stays-always : (n : ℕ) (clock : Clock) → lasting (stepped n clock .rec) ≡ lasting (clock .rec)
+pub season-stays : SteppingDoesNotChangeTheSeason
 unfolding stepped
-lasting-stays-always zero clock = refl
-lasting-stays-always (suc n) clock = lasting-stays (stepped n clock) ∙ lasting-stays-always n clock
+season-stays clock zero = refl
+season-stays clock (suc n) = lasting-stays (stepped n clock) ∙ season-stays clock n
 
--- UTC seconds go with local seconds while the status stays.
-shifted : (status : Status) (l u n : ℕ) → toUtc (record { 0 = l }) status ≡ done (record { 0 = u })
-    → toUtc (record { 0 = l + n }) status ≡ done (record { 0 = u + n })
-unfolding toUtc
-shifted status l u n e =
-    let told = was-done (12 when ltb l (seasonShift status)) (record { 0 = l - seasonShift status }) (record { 0 = u }) e in
-    let from : seasonShift status ≤ l = ltb-false _ _ (when-none 11 _ (told .0)) in
-    let at : l - seasonShift status ≡ u = ap (λ s. s .0) (told .1) in
-    let later : l + n - seasonShift status ≡ u + n = omega arith in
-    does _ (rw (le-ltb (l + n) (seasonShift status) (omega arith))) ∙ ap done (λ i. record { 0 = later i })
-
-utc-goes-along : (rec next : Record) (l u n : ℕ) → lasting next ≡ lasting rec → localSeconds rec ≡ done (record { 0 = l })
-    → localSeconds next ≡ done (record { 0 = l + n }) → utcSeconds rec ≡ done (record { 0 = u })
-    → utcSeconds next ≡ done (record { 0 = u + n })
-utc-goes-along (Dated layout status weekday date time) (Dated layout′ status′ weekday′ date′ time′) l u n same here later utc =
+-- UTC seconds go with the count while the status stays
+utc-goes-along : (rec next : Record) (count : Count) (utc : UtcSeconds) → lasting next ≡ lasting rec → countOf rec ≡ done count
+    → countOf next ≡ done (secondsLater 1 count) → secondsIn count + 1 < calendarSeconds → utcSeconds rec ≡ done utc
+    → utcSeconds next ≡ done (record { 0 = utc .0 + 1 })
+utc-goes-along (Dated layout status weekday date time) (Dated layout′ status′ weekday′ date′ time′) count utc same here later within e =
     let kept : status′ ≡ status = cc in
-    ap (λ o. after o (λ local. toUtc local status′)) later
-    ∙ ap (toUtc (record { 0 = l + n })) kept
-    ∙ shifted status l u n (ap (λ o. after o (λ local. toUtc local status)) (sym here) ∙ utc)
-utc-goes-along (Dated layout status weekday date time) (TimeOnly layout′ time′) l u n same here later utc =
+    ap (λ o. after o (λ counted. inUtc (status′ .daylight) counted)) later
+    ∙ ap (λ (s : Status). inUtc (s .daylight) (secondsLater 1 count)) kept
+    ∙ utc-later (status .daylight) count utc 1 within (ap (λ o. after o (λ counted. inUtc (status .daylight) counted)) (sym here) ∙ e)
+utc-goes-along (Dated layout status weekday date time) (TimeOnly layout′ time′) count utc same here later within e =
     let z : _≡_ {A = ℕ} 0 1 = cc in absurd (omega arith)
-utc-goes-along (TimeOnly layout time) next l u n same here later utc = let z : _≡_ {A = ℕ} 0 1 = cc in absurd (omega arith)
+utc-goes-along (TimeOnly layout time) next count utc same here later within e = let z : _≡_ {A = ℕ} 0 1 = cc in absurd (omega arith)
 
--- n steps of a clock with a date that stays in the calendar add n UTC seconds
-pub steps-add-utc-seconds : (clock : Clock) (l u n : ℕ) → localSeconds (clock .rec) ≡ done (record { 0 = l })
-    → utcSeconds (clock .rec) ≡ done (record { 0 = u }) → l + n < calendarSeconds
-    → utcSeconds (stepped n clock .rec) ≡ done (record { 0 = u + n })
-steps-add-utc-seconds clock l u n local utc before =
-    utc-goes-along (clock .rec) (stepped n clock .rec) l u n (lasting-stays-always n clock) local
-    (steps-add-local-seconds clock l local n before) utc
+-- a step that is made adds one UTC second
+utc-step : (clock : Clock) (utc : UtcSeconds) → utcSeconds (clock .rec) ≡ done utc → stepOf clock .answer ≡ answer.Stepped
+    → utcSeconds (stepOf clock .clock .rec) ≡ done (record { 0 = utc .0 + 1 })
+unfolding stepOf
+utc-step clock utc e = go (clockSecond (clock .rec)) refl
+  where
+    go : (outcome : Outcome Record) → clockSecond (clock .rec) ≡ outcome → steppedBy clock outcome .answer ≡ answer.Stepped
+        → utcSeconds (steppedBy clock outcome .clock .rec) ≡ done (record { 0 = utc .0 + 1 })
+    go (done next) is made =
+        let follows = second-is-next (clock .rec) next is in
+        let had = had-count (clock .rec) utc e in
+        let later = next-is-later (clock .rec) next (had .0) follows (had .1) in
+        let within : secondsIn (had .0) + 1 < calendarSeconds = omega (arith, seconds-in-later (had .0) 1, count-within next (secondsLater 1 (had .0)) later) in
+        utc-goes-along (clock .rec) next (had .0) utc (standing-next (clock .rec) next follows) (had .1) later within e
+    go (refused n) is made = let z : _≡_ {A = ℕ} 0 1 = cc in absurd (omega arith)
+
+pub steps-add-utc-seconds : StepsAddAsManyUtcSeconds
+unfolding stepped
+steps-add-utc-seconds clock utc zero e made = e ∙ (let same : utc .0 ≡ utc .0 + 0 = omega arith in λ i. done (record { 0 = same i }))
+steps-add-utc-seconds clock utc (suc n) e made =
+    let so-far = steps-add-utc-seconds clock utc n e (λ k below. made k (omega arith)) in
+    let more : utc .0 + n + 1 ≡ utc .0 + suc n = omega arith in
+    utc-step (stepped n clock) (record { 0 = utc .0 + n }) so-far (made n (omega arith)) ∙ (λ i. done (record { 0 = more i }))

@@ -1,4 +1,4 @@
--- Laws of a clock that runs: each step adds one second, local and UTC, up to the end of the calendar. Assumes nothing.
+-- Laws of a clock that runs: each step adds one second to its count, up to the end of the calendar. Assumes nothing.
 use mathlib.Core.Path.{_≡_, refl, ap, sym, _∙_}
 use mathlib.Core.Bool.{Bool, true, false, _&&_}
 use Prim.Native.Nat.{ℕ, zero, suc, _+_, _-_, _*_, _<_}
@@ -6,7 +6,7 @@ use native.Mathlib.Omega.{arith}
 use lib.Dec.{eqb}
 use borrow.Author.Tests.{eqb-true}
 use Rattle.refusals.specs.Refusals.{done, refused, unless}
-use Rattle.refusals.proofs.Laws.{both, was-done, does}
+use Rattle.refusals.proofs.Laws.{both, does}
 use Rattle.calendar.specs.Calendar.{monthLength, dayOf, isLastDay, dayAfter}
 use Rattle.calendar.specs.TimeOfDay.{secondsOf, isLastSecond}
 use Rattle.calendar.specs.declared.date.Date.{Date}
@@ -16,20 +16,20 @@ use Rattle.calendar.proofs.Dates.{Good as GoodDate, good as date-good, day-with
 use Rattle.calendar.proofs.Times.{Good as GoodTime, good-range, seconds-within, last-second}
 use Rattle.record.specs.declared.DatedLayout.{DatedLayout}
 use Rattle.record.specs.declared.Status.{Status}
-use Rattle.record.specs.declared.Record.{Record}
-use Rattle.record.specs.declared.Record.the-variants.{Dated, TimeOnly}
+use Rattle.record.specs.declared.Record.the-variants.{Dated}
+use Rattle.record.specs.declared.season.Count.{Count}
+use Rattle.record.specs.Season.{secondsLater, secondsIn, calendarSeconds}
 use Rattle.record.specs.Rule.{datedRefusal}
 use Rattle.record.specs.Next.{recordAfter, isLastOfCalendar, nextSecondOf}
-use Rattle.record.specs.Utc.{localSeconds}
+use Rattle.record.specs.Utc.{countOf}
 use Rattle.record.proofs.RuleLaws.{good}
+use Rattle.record.proofs.UtcLaws.{placed, placed-seconds, none-later, later-still, seconds-in-later}
 use Rattle.record.proofs.NextLaws.{next-is-later}
 use Rattle.clock.specs.declared.Clock.{Clock}
-use Rattle.clock.specs.declared.StepAnswer.the-variants as answer
-use Rattle.clock.specs.Stepping.{stepOf}
-use Rattle.clock.specs.Running.{stepped, calendarSeconds}
+use Rattle.clock.specs.Running.{AStepAddsOneSecond, TheLastSecondGives12, stepped, EachIsMade, StepsAddAsManySeconds}
 use Rattle.clock.proofs.StepLaws.{second-refused, goes-on}
 
--- The end of the calendar, by its day number and by its local second.
+-- The end of the calendar, by its day number and by its second.
 last-day-is : (date : Date) → isLastDay date ≡ true → dayOf date ≡ 36524
 unfolding isLastDay dayOf monthLength
 last-day-is date e =
@@ -64,7 +64,7 @@ is-last-day date g e = go (isLastDay date) refl
         let next = day-after date g more in
         absurd (omega (arith, next .number, day-within (dayAfter date) (next .good)))
 
--- The local second of a good record with a date tells whether it is the calendar's last.
+-- The seconds of a good record with a date tell whether it is the calendar's last.
 module _ (layout : DatedLayout) (status : Status) (weekday : ℕ) (date : Date) (time : Time)
     (none : datedRefusal layout status weekday date time ≡ 0) where
   not-last : 86400 * dayOf date + secondsOf time + 1 < calendarSeconds → isLastOfCalendar (Dated layout status weekday date time) ≡ false
@@ -95,61 +95,34 @@ module _ (layout : DatedLayout) (status : Status) (weekday : ℕ) (date : Date) 
   unfolding nextSecondOf unless
   calendar-ends end = rw (none, is-last end)
 
--- A record that has a local second carries a date and is good, and its second is that of its day and its time.
-record Placed (rec : Record) (l : ℕ) : Type 0 where
-  layout : DatedLayout
-  status : Status
-  weekday : ℕ
-  date : Date
-  time : Time
-  is : rec ≡ Dated layout status weekday date time
-  none : datedRefusal layout status weekday date time ≡ 0
-  second : 86400 * dayOf date + secondsOf time ≡ l
-
-placed : (rec : Record) (l : ℕ) → localSeconds rec ≡ done (record { 0 = l }) → Placed rec l
-placed (Dated layout status weekday date time) l e =
-    let told = was-done (datedRefusal layout status weekday date time) (record { 0 = 86400 * dayOf date + secondsOf time }) (record { 0 = l }) e in
-    record {
-      layout = layout;
-      status = status;
-      weekday = weekday;
-      date = date;
-      time = time;
-      is = refl;
-      none = told .0;
-      second = ap (λ s. s .0) (told .1);
-    }
-placed (TimeOnly layout time) l e = let z : _≡_ {A = ℕ} 0 1 = cc in absurd (omega arith)
-
 -- One step of a clock with a date.
-module _ (clock : Clock) (l : ℕ) (local : localSeconds (clock .rec) ≡ done (record { 0 = l })) where
-  -- before the calendar's last second it is made, and adds one local second
-  pub step-adds-a-second : l + 1 < calendarSeconds
-      → (stepOf clock .answer ≡ answer.Stepped) × (localSeconds (stepOf clock .clock .rec) ≡ done (record { 0 = l + 1 }))
-  step-adds-a-second before =
-      let p = placed (clock .rec) l local in
-      let follows = ap nextSecondOf (p .is) ∙ second-follows _ _ _ _ _ (p .none) (omega (arith, p .second)) in
-      let made = goes-on clock _ _ _ _ _ _ (p .is) follows in
-      (ap (λ s. s .answer) (sym made), ap (λ s. localSeconds (s .clock .rec)) (sym made) ∙ next-is-later (clock .rec) _ _ follows local)
+pub step-adds-a-second : AStepAddsOneSecond
+step-adds-a-second clock count counted before =
+    let p = placed (clock .rec) count counted in
+    let seconds = placed-seconds (clock .rec) count counted p in
+    let follows = ap nextSecondOf (p .is) ∙ second-follows _ _ _ _ _ (p .none) (omega arith) in
+    let made = goes-on clock _ _ _ _ _ _ (p .is) follows in
+    (ap (λ s. s .answer) (sym made), ap (λ s. countOf (s .clock .rec)) (sym made) ∙ next-is-later (clock .rec) _ count follows counted)
 
-  -- at that second it gives 12
-  pub last-second-gives-12 : l + 1 ≡ calendarSeconds → stepOf clock .answer ≡ answer.Refused 12
-  last-second-gives-12 end =
-      let p = placed (clock .rec) l local in
-      let ends = ap nextSecondOf (p .is) ∙ calendar-ends _ _ _ _ _ (p .none) (omega (arith, p .second)) in
-      ap (λ s. s .answer) (sym (second-refused clock 12 ends))
+pub last-second-gives-12 : TheLastSecondGives12
+last-second-gives-12 clock count counted end =
+    let p = placed (clock .rec) count counted in
+    let seconds = placed-seconds (clock .rec) count counted p in
+    let ends = ap nextSecondOf (p .is) ∙ calendar-ends _ _ _ _ _ (p .none) (omega arith) in
+    ap (λ s. s .answer) (sym (second-refused clock 12 ends))
 
 -- Any number of steps of a clock with a date that stays in the calendar.
-module _ (clock : Clock) (l : ℕ) (local : localSeconds (clock .rec) ≡ done (record { 0 = l })) where
-  -- n steps add n local seconds
-  pub steps-add-local-seconds : (n : ℕ) → l + n < calendarSeconds → localSeconds (stepped n clock .rec) ≡ done (record { 0 = l + n })
+module _ (clock : Clock) (count : Count) (counted : countOf (clock .rec) ≡ done count) where
+  counted-after : (n : ℕ) → secondsIn count + n < calendarSeconds → countOf (stepped n clock .rec) ≡ done (secondsLater n count)
   unfolding stepped
-  steps-add-local-seconds zero before = local ∙ ap (λ k. done (record { 0 = k })) (omega arith)
-  steps-add-local-seconds (suc n) before =
-      step-adds-a-second (stepped n clock) (l + n) (steps-add-local-seconds n (omega arith)) (omega arith) .1
-      ∙ ap (λ k. done (record { 0 = k })) (omega arith)
+  counted-after zero before = counted ∙ ap done (sym (none-later count))
+  counted-after (suc n) before =
+      step-adds-a-second (stepped n clock) (secondsLater n count) (counted-after n (omega arith)) (omega (arith, seconds-in-later count n)) .1
+      ∙ ap done (later-still count n)
 
-  -- none of the n steps is refused
-  pub no-step-refused : (n k : ℕ) → l + n < calendarSeconds → k < n → stepOf (stepped k clock) .answer ≡ answer.Stepped
-  no-step-refused n k before within =
-      step-adds-a-second (stepped k clock) (l + k) (steps-add-local-seconds k (omega arith)) (omega arith) .0
+  made-within : (n : ℕ) → secondsIn count + n < calendarSeconds → EachIsMade n clock
+  made-within n before k within =
+      step-adds-a-second (stepped k clock) (secondsLater k count) (counted-after k (omega arith)) (omega (arith, seconds-in-later count k)) .0
+
+pub steps-add-seconds : StepsAddAsManySeconds
+steps-add-seconds clock count n counted before = (made-within clock count counted n before, counted-after clock count counted n before)

@@ -12,13 +12,14 @@ use Rattle.record.specs.declared.TimeLayout.{TimeLayout}
 use Rattle.record.specs.declared.Status.{Status}
 use Rattle.record.specs.declared.Record.{Record}
 use Rattle.record.specs.declared.Record.the-variants.{Dated, TimeOnly}
-use Rattle.record.specs.Rule.{refusalOf}
+use Rattle.record.specs.Rule.{refusalOf, carriesDate}
 use Rattle.record.specs.Next.{recordAfter, isLastOfCalendar, nextSecondOf}
 use Rattle.clock.specs.declared.Clock.{Clock}
 use Rattle.clock.specs.declared.StepAnswer.the-variants as answer
 use Rattle.clock.specs.declared.Stepped.{Stepped}
-use Rattle.clock.specs.Stepping.{carriesDate, clockSecond, withRecord, steppedBy, stepOf}
+use Rattle.clock.specs.Stepping.{clockSecond, withRecord, steppedBy, stepOf}
 use Rattle.clock.specs.Answers.{stepAnswer}
+use Rattle.clock.specs.Running.{ARefusedClockIsUnchanged}
 
 -- The ways in which a step ends.
 module _ (clock : Clock) where
@@ -42,14 +43,13 @@ module _ (clock : Clock) where
   unfolding clockSecond unless
   goes-on layout status weekday date time next is e = stepped-by (done next) (rw (e, is))
 
--- "refused with 5 to 8, 12 or 14 it is unchanged"
-pub refused-is-unchanged : (clock : Clock) (number : ℕ) → stepOf clock .answer ≡ answer.Refused number → stepOf clock .clock ≡ clock
+pub refused-is-unchanged : ARefusedClockIsUnchanged
 unfolding stepOf
-refused-is-unchanged clock number e = go (clockSecond (clock .rec)) e
+refused-is-unchanged clock n = go (clockSecond (clock .rec))
   where
-    go : (outcome : Outcome Record) → steppedBy clock outcome .answer ≡ answer.Refused number → steppedBy clock outcome .clock ≡ clock
+    go : (outcome : Outcome Record) → stepAnswer (steppedBy clock outcome .answer) ≡ refused n → steppedBy clock outcome .clock ≡ clock
     go (done next) e = let z : _≡_ {A = ℕ} 0 1 = cc in absurd (omega arith)
-    go (refused n) e = refl
+    go (refused k) e = refl
 
 -- one refusal after another, told by the lowest of their numbers
 one-after-another : (a b : ℕ) (rec : Record)

@@ -1,16 +1,12 @@
 -- Document 01, "Calendar, UTC and the station clock": one step of the station clock.
-use mathlib.Core.Bool.{Bool, true, false, not}
+use mathlib.Core.Bool.{not}
 use Rattle.refusals.specs.Refusals.{_when_, Outcome, done, refused, unless, after}
 use Rattle.record.specs.declared.Record.{Record}
-use Rattle.record.specs.declared.Record.the-variants.{Dated, TimeOnly}
+use Rattle.record.specs.Rule.{carriesDate}
 use Rattle.record.specs.Next.{nextSecondOf}
 use Rattle.clock.specs.declared.Clock.{Clock}
 use Rattle.clock.specs.declared.StepAnswer.the-variants as answer
 use Rattle.clock.specs.declared.Stepped.{Stepped}
-
-abbrev pub carriesDate : Record → Bool
-carriesDate (Dated layout status weekday date time) = true
-carriesDate (TimeOnly layout time) = false
 
 -- "a time-only record gives 14 here": behind 5 to 8 and 12, which the next second gives, as the lowest number is given
 unfoldable pub clockSecond : Record → Outcome Record

@@ -4,8 +4,8 @@ use Rattle.refusals.specs.Refusals.{unless}
 use Rattle.places.specs.Places.{isDecimal, isCapital, codeValue}
 use Rattle.calendar.specs.Calendar.{isLeap, monthLength, monthInRange, dateInRange, dayExists, monthStart, dayOf}
 use Rattle.calendar.specs.TimeOfDay.{timeInRange, timeRefusal, secondsOf}
+use Rattle.record.specs.Season.{seasonShift, toUtc}
 use Rattle.record.specs.Rule.{plainUtc, tableCanSay, statusAllowed, weekdayAllowed, weekdayAgrees, datedRefusal}
-use Rattle.record.specs.Utc.{seasonShift, toUtc}
 use Rattle.layouts.specs.Layouts.{placesOf, layoutOf}
 use Rattle.layouts.specs.Coding.{statusIn6021, statusIn5500}
 use Rattle.telegram.specs.Reading.{carried, bodyRefusal, readOf}

@@ -1,21 +1,24 @@
 -- Demand 1 holds. Assumes nothing.
 use mathlib.Core.Path.{_≡_, refl, ap, sym, _∙_}
-use mathlib.Core.Bool.{Bool, true, false, not}
+use mathlib.Core.Bool.{Bool, true, false, not, _||_}
 use mathlib.Core.List.{List, [], _∷_, _++_}
-use Prim.Native.Nat.{ℕ, zero, suc, _+_, _-_}
+use Prim.Native.Nat.{ℕ, zero, suc, _+_, _-_, _≤_}
 use native.Mathlib.Omega.{arith}
-use lib.Dec.{leb, eqb}
+use lib.Dec.{leb, ltb, eqb}
 use lib.ListN.{length, take, drop, take-append-drop}
-use borrow.Author.Tests.{eqb-true, eqb-false}
+use borrow.Author.Tests.{ltb-true, ltb-false, leb-true, leb-false, le-leb, lt-leb, eqb-true, eqb-false}
 use Rattle.refusals.specs.Refusals.{_when_, _else_, Outcome, done, refused, unless, after}
 use Rattle.refusals.proofs.Laws.{else-assoc}
+use Rattle.calendar.specs.Ranges.{inside}
 use Rattle.calendar.specs.Calendar.{dateInRange, dayExists, dateRefusal, monthInRange, monthLength, dayOf, dateAt, dayAfter, isLastDay, dayNumber, dateOf, nextDay}
 use Rattle.calendar.specs.TimeOfDay.{timeInRange, timeRefusal, secondsOf, timeAfter, isLastSecond, secondOfDay, nextSecond}
 use Rattle.record.specs.declared.Record.{Record}
 use Rattle.record.specs.declared.Record.the-variants.{Dated, TimeOnly}
+use Rattle.record.specs.declared.season.LocalSeconds.{LocalSeconds}
+use Rattle.record.specs.Season.{calendarSeconds, seasonShift, isOutside, toUtc}
 use Rattle.record.specs.Rule.{refusalOf}
 use Rattle.record.specs.Next.{nextSecondOf}
-use Rattle.record.specs.Utc.{utcSeconds}
+use Rattle.record.specs.Utc.{countOf, utcSeconds}
 use Rattle.layouts.specs.declared.Layout.{Layout}
 use Rattle.layouts.specs.Layouts.{layoutOf}
 use Rattle.telegram.specs.declared.write.Choice.{Choice}
@@ -25,15 +28,16 @@ use Rattle.telegram.specs.Reading.{bodyOf, carried, readOf}
 use Rattle.telegram.specs.Writing.{written, laidIn, oneMore, bufferAfter}
 use Rattle.telegram.proofs.SeveralLaws.{told-refused, ended-before, goes-in, goes-into}
 use Rattle.telegram.proofs.ReadsBack.{refused-is-untouched}
-use Rattle.clock.specs.Stepping.{stepOf, clockSecond, steppedBy}
+use Rattle.clock.specs.Stepping.{stepOf}
 use Rattle.clock.specs.Answers.{stepAnswer}
+use Rattle.clock.proofs.StepLaws.{refused-is-unchanged}
 use Rattle.board.specs.Switches.{byteOf}
 use Rattle.board.specs.Of6036.{offered, switchesFor, byteFor}
 use Rattle.demands.specs.Numbers.{_givenWhen_, _refusedBy_}
-use Rattle.demands.specs.Rules.{dateRules, recordRules, rulesIn, readingRules, nextSecondRules, writingRules, utcRules, stepRules}
-use Rattle.demands.specs.Demand1.{ReadingRefuses, WritingRefuses, WritingOneMoreRefuses, TheFirstRefusalEndsIt, TheRuleRefuses, TheNextSecondRefuses, UtcSecondsRefuse, TheStepRefuses, TheParameterByteRefuses, TheCalendarRefuses, ARefusedTelegramChangesNoByte, ARefusedOneMoreChangesNoByte, ARefusedClockComesBackUnchanged}
+use Rattle.demands.specs.Rules.{dateRules, recordRules, rulesIn, readingRules, nextSecondRules, writingRules, countRules, utcRules, stepRules}
+use Rattle.demands.specs.Demand1.{ReadingRefuses, WritingRefuses, WritingOneMoreRefuses, TheFirstRefusalEndsIt, TheRuleRefuses, TheNextSecondRefuses, CountingRefuses, TheSeasonShiftRefuses, UtcSecondsRefuse, TheStepRefuses, TheParameterByteRefuses, TheCalendarRefuses, ARefusedTelegramChangesNoByte, ARefusedOneMoreChangesNoByte, ARefusedClockComesBackUnchanged}
 use Rattle.demands.proofs.Refusing.{else-nothing, by-lowest, unless-by, tested, refuses, gives}
-use Rattle.demands.proofs.RulesHold.{record-rules, next-second-rules, reading-rules, writing-rules, utc-rules, step-rules}
+use Rattle.demands.proofs.RulesHold.{record-rules, next-second-rules, reading-rules, writing-rules, count-rules, utc-rules, step-rules}
 
 -- one telegram read
 abbrev toEight : List ℕ
@@ -119,6 +123,13 @@ demand-1-next-second rec = refuses (5 ∷ 6 ∷ 7 ∷ 8 ∷ 12 ∷ []) (nextSeco
     go (Dated layout status weekday date time) = refl
     go (TimeOnly layout time) = refl
 
+pub demand-1-count : CountingRefuses
+demand-1-count rec = refuses (5 ∷ 6 ∷ 7 ∷ 8 ∷ 14 ∷ []) (countOf rec) (countRules rec) (count-rules rec) (go rec)
+  where
+    go : (rec : Record) → tested (5 ∷ 6 ∷ 7 ∷ 8 ∷ 14 ∷ []) (countRules rec) ≡ true
+    go (Dated layout status weekday date time) = refl
+    go (TimeOnly layout time) = refl
+
 abbrev withDate : List ℕ
 withDate = 5 ∷ 6 ∷ 7 ∷ 8 ∷ 12 ∷ 14 ∷ []
 
@@ -134,17 +145,35 @@ demand-1-step clock =
     refuses withDate (stepAnswer (stepOf clock .answer)) (stepRules (clock .rec)) (step-rules clock) (twelve-and-fourteen (clock .rec) _ _)
 
 pub demand-1-clock-unchanged : ARefusedClockComesBackUnchanged
-unfolding stepOf
-demand-1-clock-unchanged clock n = go (clockSecond (clock .rec))
-  where
-    go : (o : Outcome Record) → stepAnswer (steppedBy clock o .answer) ≡ refused n → steppedBy clock o .clock ≡ clock
-    go (done next) e = let z : _≡_ {A = ℕ} 0 1 = cc in absurd (omega arith)
-    go (refused k) e = refl
+demand-1-clock-unchanged = refused-is-unchanged
 
--- the parameter byte and the calendar
+-- the season shift, the parameter byte and the calendar
 one-rule : {A : Type 0} (n : ℕ) (holds : Bool) (value : A) → unless (n when holds) value refusedBy n givenWhen holds ∷ []
 one-rule n holds value =
     by-lowest (unless (n when holds) value) (n givenWhen holds ∷ []) refl (unless-by (n when holds) value (n givenWhen holds ∷ []) (sym (else-nothing (n when holds))))
+
+-- a UTC second is in the calendar where the local one is as far ahead of it as the shift
+outside : (local : LocalSeconds) (daylight : Bool)
+    → isOutside local daylight ≡ not (inside (seasonShift daylight) (local .0) (seasonShift daylight + 3155759999))
+outside local daylight = go (ltb (local .0) (seasonShift daylight)) refl
+  where
+    shift : ℕ
+    shift = seasonShift daylight
+
+    end : (late : Bool) → leb calendarSeconds (local .0 - shift) ≡ late → shift ≤ local .0 → late ≡ not (leb (local .0) (shift + 3155759999))
+    end true e from = let late = leb-true calendarSeconds (local .0 - shift) e in rw (lt-leb (local .0) (shift + 3155759999) (omega arith))
+    end false e from = let in-time = leb-false calendarSeconds (local .0 - shift) e in rw (le-leb (local .0) (shift + 3155759999) (omega arith))
+
+    go : (early : Bool) → ltb (local .0) shift ≡ early
+        → (early || leb calendarSeconds (local .0 - shift)) ≡ not (inside shift (local .0) (shift + 3155759999))
+    go true e = rw (lt-leb shift (local .0) (ltb-true (local .0) shift e))
+    go false e = let from = ltb-false (local .0) shift e in rw (le-leb shift (local .0) from) (end (leb calendarSeconds (local .0 - shift)) refl from)
+
+pub demand-1-season-shift : TheSeasonShiftRefuses
+unfolding toUtc
+demand-1-season-shift local daylight =
+    rw (outside local daylight)
+    (one-rule 12 (not (inside (seasonShift daylight) (local .0) (seasonShift daylight + 3155759999))) (record { 0 = local .0 - seasonShift daylight }))
 
 pub demand-1-parameter : TheParameterByteRefuses
 unfolding byteFor

@@ -98,7 +98,7 @@ pub demand-2-next-second : WrittenWithAdvanceItReadsBackAsTheNextSecond
 demand-2-next-second control rec room bytes e = write-reads-back (advanced control) rec room bytes e
 
 pub demand-2-one-later : TheNextSecondIsOneLater
-demand-2-one-later rec next local e f = next-is-later rec next local e f
+demand-2-one-later = next-is-later
 
 pub demand-2-one-later-in-a-day : TheNextSecondOfADayIsOneLater
 unfolding nextSecondOf

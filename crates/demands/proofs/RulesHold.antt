@@ -2,7 +2,7 @@
 use mathlib.Core.Path.{_≡_, refl, ap, sym, _∙_}
 use mathlib.Core.Bool.{Bool, true, false, cond, not, _&&_}
 use mathlib.Core.List.{List, [], _∷_, _++_, map, append-assoc}
-use Prim.Native.Nat.{ℕ, _+_, _-_, _*_}
+use Prim.Native.Nat.{ℕ, _+_, _*_}
 use native.Mathlib.Omega.{arith}
 use lib.Dec.{ltb}
 use lib.ListN.{length}
@@ -14,9 +14,10 @@ use Rattle.calendar.specs.TimeOfDay.{timeInRange, timeRefusal, secondsOf, isLas
 use Rattle.record.specs.declared.DatedLayout.the-variants.{L6021}
 use Rattle.record.specs.declared.Record.{Record}
 use Rattle.record.specs.declared.Record.the-variants.{Dated, TimeOnly}
-use Rattle.record.specs.Rule.{statusAllowed, weekdayAllowed, weekdayAgrees, datedRefusal, refusalOf}
+use Rattle.record.specs.Rule.{statusAllowed, weekdayAllowed, weekdayAgrees, datedRefusal, refusalOf, carriesDate}
 use Rattle.record.specs.Next.{weekdayAfter, recordAfter, isLastOfCalendar, nextSecondOf}
-use Rattle.record.specs.Utc.{seasonShift, toUtc, utcSeconds}
+use Rattle.record.specs.Utc.{asMarked, countOf, utcSeconds}
+use Rattle.record.proofs.UtcLaws.{utc-lowest-first}
 use Rattle.layouts.specs.declared.Layout.{Layout}
 use Rattle.layouts.specs.Layouts.{placesOf, ownLayout, layoutOf}
 use Rattle.telegram.specs.declared.write.Choice.{Choice}
@@ -24,12 +25,12 @@ use Rattle.telegram.specs.declared.write.Choice.the-variants.{Named, Unnamed}
 use Rattle.telegram.specs.Reading.{bodyOf, framed, carried, bodyRefusal, readOf}
 use Rattle.telegram.specs.Writing.{telegramOf, as6021, judgedOf, laid, written}
 use Rattle.clock.specs.declared.Clock.{Clock}
-use Rattle.clock.specs.Stepping.{carriesDate, stepOf}
+use Rattle.clock.specs.Stepping.{stepOf}
 use Rattle.clock.specs.Answers.{stepAnswer}
 use Rattle.clock.proofs.StepLaws.{lowest-first}
 use Rattle.demands.specs.Lengths.{sevenLayouts, lengthOf}
 use Rattle.demands.specs.Numbers.{Rule, _givenWhen_, among}
-use Rattle.demands.specs.Rules.{recordRules, rulesIn, readingRules, nextSecondRules, writingRules, isBeforeUtc, utcRules, stepRules}
+use Rattle.demands.specs.Rules.{recordRules, rulesIn, readingRules, nextSecondRules, writingRules, countRules, isBeforeUtc, utcRules, stepRules}
 use Rattle.demands.proofs.TableLengths.{telegram-length, found, length-in-table}
 use Rattle.demands.proofs.Refusing.{else-nothing, firstOf, first-of-both, _byFirst_, unless-by, then-by}
 
@@ -141,20 +142,28 @@ writing-rules Unnamed rec room =
     ap (λ o. after o (λ v. done tt)) (after-both (judgedOf rec) as6021 (λ r. laid false r room))
     ∙ then-by (refusalOf rec) rec (λ good. after (as6021 good) (λ r. laid false r room)) (recordRules rec) _ (record-rules rec) (unnamed rec room)
 
--- UTC seconds and the station clock
+-- a count of seconds, UTC seconds and the station clock
+no-date : (wrong : Bool) → refused (6 when wrong else 14) ≡ unless {A = Unit {0}} (6 when wrong else 14) tt
+unfolding unless
+no-date true = refl
+no-date false = refl
+
+pub count-rules : (rec : Record) → countOf rec byFirst countRules rec
+unfolding timeRefusal
+count-rules (Dated layout status weekday date time) =
+    let rec = Dated layout status weekday date time in
+    unless-by (refusalOf rec) (asMarked (status .utc) (86400 * dayOf date + secondsOf time)) (countRules rec)
+    (sym (else-nothing (refusalOf rec)) ∙ behind-record rec 0 (14 givenWhen false ∷ []) refl)
+count-rules (TimeOnly layout time) = no-date (not (timeInRange time))
+
 pub utc-rules : (rec : Record) → utcSeconds rec byFirst utcRules rec
-unfolding toUtc timeRefusal unless
+unfolding timeRefusal
 utc-rules (Dated layout status weekday date time) =
     let rec = Dated layout status weekday date time in
-    let local = 86400 * dayOf date + secondsOf time in
-    let later = 12 givenWhen isBeforeUtc rec ∷ 14 givenWhen false ∷ [] in
-    then-by (refusalOf rec) (record { 0 = local }) (λ l. toUtc l status) (recordRules rec) later (record-rules rec)
-    (unless-by (12 when isBeforeUtc rec) (record { 0 = local - seasonShift status }) later (sym (else-nothing (12 when isBeforeUtc rec))))
-utc-rules (TimeOnly layout time) = go (not (timeInRange time))
-  where
-    go : (wrong : Bool) → refused (6 when wrong else 14) ≡ unless {A = Unit {0}} (6 when wrong else 14) tt
-    go true = refl
-    go false = refl
+    let before = 12 when isBeforeUtc rec in
+    utc-lowest-first layout status weekday date time
+    ∙ ap (λ n. unless n tt) (behind-record rec before (12 givenWhen isBeforeUtc rec ∷ 14 givenWhen false ∷ []) (sym (else-nothing before)))
+utc-rules (TimeOnly layout time) = no-date (not (timeInRange time))
 
 pub step-rules : (clock : Clock) → stepAnswer (stepOf clock .answer) byFirst stepRules (clock .rec)
 step-rules clock =

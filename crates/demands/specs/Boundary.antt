@@ -12,7 +12,7 @@ use Rattle.record.specs.declared.Reception.the-variants.{Crystal, Radio, High}
 use Rattle.record.specs.declared.Status.{Status}
 use Rattle.record.specs.declared.Record.{Record}
 use Rattle.record.specs.declared.Record.the-variants.{Dated, TimeOnly}
-use Rattle.record.specs.declared.utc.UtcSeconds.{UtcSeconds}
+use Rattle.record.specs.declared.season.UtcSeconds.{UtcSeconds}
 use Rattle.record.specs.Utc.{utcSeconds}
 use Rattle.telegram.specs.Reading.{readOf}
 use Rattle.board.specs.declared.Parity.the-variants.{None}

@@ -15,9 +15,11 @@ use Rattle.calendar.specs.declared.date.Date.{Date}
 use Rattle.calendar.specs.declared.time.Time.{Time}
 use Rattle.record.specs.declared.Record.{Record}
 use Rattle.record.specs.declared.RecordAnswer.{RecordAnswer}
+use Rattle.record.specs.declared.season.LocalSeconds.{LocalSeconds}
+use Rattle.record.specs.Season.{toUtc}
 use Rattle.record.specs.Rule.{refusalOf}
 use Rattle.record.specs.Next.{nextSecondOf}
-use Rattle.record.specs.Utc.{utcSeconds}
+use Rattle.record.specs.Utc.{countOf, utcSeconds}
 use Rattle.telegram.specs.declared.write.Choice.{Choice}
 use Rattle.telegram.specs.declared.several.Several.{Several}
 use Rattle.telegram.specs.Reading.{readOf}
@@ -33,7 +35,7 @@ use Rattle.board.specs.declared.of_6036.Parameter.{Parameter}
 use Rattle.board.specs.Of6036.{offered, byteFor}
 use Rattle.listing.specs.Listing.{eventRow, laid}
 use Rattle.demands.specs.Numbers.{_givenWhen_, lowest, _refusedBy_, _doneOr_, _noneOr_, _silentOr_, EachSilentOr}
-use Rattle.demands.specs.Rules.{dateRules, recordRules, readingRules, nextSecondRules, writingRules, utcRules, stepRules, rowRules}
+use Rattle.demands.specs.Rules.{dateRules, recordRules, readingRules, nextSecondRules, writingRules, countRules, shiftRules, utcRules, stepRules, rowRules}
 
 -- one telegram read: 1 to 8
 abbrev pub ReadingRefuses : Type 0
@@ -67,6 +69,14 @@ TheRuleRefuses = (rec : Record) → (refusalOf rec ≡ lowest (recordRules rec))
 abbrev pub TheNextSecondRefuses : Type 0
 TheNextSecondRefuses =
     (rec : Record) → (nextSecondOf rec refusedBy nextSecondRules rec) × (nextSecondOf rec doneOr 5 ∷ 6 ∷ 7 ∷ 8 ∷ 12 ∷ [])
+
+-- the count of a record's seconds: 5 to 8, 14
+abbrev pub CountingRefuses : Type 0
+CountingRefuses = (rec : Record) → (countOf rec refusedBy countRules rec) × (countOf rec doneOr 5 ∷ 6 ∷ 7 ∷ 8 ∷ 14 ∷ [])
+
+-- the season shift of any local second: 12
+abbrev pub TheSeasonShiftRefuses : Type 0
+TheSeasonShiftRefuses = (local : LocalSeconds) (daylight : Bool) → toUtc local daylight refusedBy shiftRules local daylight
 
 -- a record's UTC seconds: 5 to 8, 12, 14
 abbrev pub UtcSecondsRefuse : Type 0

@@ -13,10 +13,11 @@ use Rattle.calendar.specs.declared.time.Time.{Time}
 use Rattle.record.specs.declared.TimeLayout.{TimeLayout}
 use Rattle.record.specs.declared.Record.{Record}
 use Rattle.record.specs.declared.Record.the-variants.{TimeOnly}
-use Rattle.record.specs.declared.utc.LocalSeconds.{LocalSeconds}
+use Rattle.record.specs.declared.season.Count.{Count}
+use Rattle.record.specs.Season.{secondsLater}
 use Rattle.record.specs.Rule.{refusalOf}
 use Rattle.record.specs.Next.{nextSecondOf}
-use Rattle.record.specs.Utc.{localSeconds}
+use Rattle.record.specs.Utc.{countOf}
 use Rattle.layouts.specs.Layouts.{placesOf, ownLayout}
 use Rattle.layouts.specs.Coding.{digitsOut}
 use Rattle.telegram.specs.declared.write.Choice.{Choice}
@@ -98,8 +99,8 @@ WrittenWithAdvanceItReadsBackAsTheNextSecond =
 -- The next second is one second later: of the calendar where there is a date, else of the day.
 abbrev pub TheNextSecondIsOneLater : Type 0
 TheNextSecondIsOneLater =
-    (rec next : Record) (local : LocalSeconds) → nextSecondOf rec ≡ done next → localSeconds rec ≡ done local
-    → localSeconds next ≡ done (record { 0 = local .0 + 1 })
+    (rec next : Record) (count : Count) → nextSecondOf rec ≡ done next → countOf rec ≡ done count
+    → countOf next ≡ done (secondsLater 1 count)
 
 abbrev pub TheNextSecondOfADayIsOneLater : Type 0
 TheNextSecondOfADayIsOneLater =

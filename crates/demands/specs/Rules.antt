@@ -6,6 +6,7 @@ use lib.Dec.{ltb}
 use lib.ListN.{length}
 use Rattle.refusals.specs.Refusals.{Outcome, done, refused}
 use Rattle.places.specs.Places.{fixedHolds, decimalHolds, codeHolds, every}
+use Rattle.calendar.specs.Ranges.{inside}
 use Rattle.calendar.specs.Calendar.{dateInRange, dayExists, dayOf}
 use Rattle.calendar.specs.TimeOfDay.{timeInRange, secondsOf}
 use Rattle.calendar.specs.declared.date.Date.{Date}
@@ -13,15 +14,15 @@ use Rattle.record.specs.declared.Record.{Record}
 use Rattle.record.specs.declared.Record.the-variants.{Dated, TimeOnly}
 use Rattle.record.specs.declared.RecordAnswer.{RecordAnswer}
 use Rattle.record.specs.declared.RecordAnswer.the-variants as answer
-use Rattle.record.specs.Rule.{statusAllowed, weekdayAllowed, weekdayAgrees}
+use Rattle.record.specs.declared.season.LocalSeconds.{LocalSeconds}
+use Rattle.record.specs.Season.{seasonShift}
+use Rattle.record.specs.Rule.{statusAllowed, weekdayAllowed, weekdayAgrees, carriesDate}
 use Rattle.record.specs.Next.{isLastOfCalendar}
-use Rattle.record.specs.Utc.{seasonShift}
 use Rattle.layouts.specs.declared.Layout.{Layout}
 use Rattle.layouts.specs.Layouts.{placesOf, ownLayout, layoutOf}
 use Rattle.telegram.specs.declared.write.Choice.{Choice}
 use Rattle.telegram.specs.declared.write.Choice.the-variants.{Named, Unnamed}
 use Rattle.telegram.specs.Reading.{bodyOf, framed, carried}
-use Rattle.clock.specs.Stepping.{carriesDate}
 use Rattle.listing.specs.Listing.{recordRow, refusedRow}
 use Rattle.demands.specs.Lengths.{sevenLayouts, lengthOf}
 use Rattle.demands.specs.Numbers.{Rule, _givenWhen_, among}
@@ -72,9 +73,18 @@ writingRules (Named setting) rec room =
 writingRules Unnamed rec room =
     recordRules rec ++ 13 givenWhen (carriesDate rec && ltb room 16) ∷ 14 givenWhen not (carriesDate rec) ∷ []
 
--- UTC seconds: 12 "before 1.1.1980 00:00 UTC"; a time-only record: 14
+-- the count of a record's seconds: 14 "a date is needed and the layout carries none"
+abbrev pub countRules : Record → List Rule
+countRules rec = recordRules rec ++ 14 givenWhen not (carriesDate rec) ∷ []
+
+-- the season shift: 12 "the result lies outside the calendar", whose UTC seconds are 0 to 3,155,759,999
+abbrev pub shiftRules : LocalSeconds → Bool → List Rule
+shiftRules local daylight = 12 givenWhen not (inside (seasonShift daylight) (local .0) (seasonShift daylight + 3155759999)) ∷ []
+
+-- UTC seconds: 12 "before 1.1.1980 00:00 UTC", where "a record marked UTC is not shifted"; a time-only record: 14
 abbrev pub isBeforeUtc : Record → Bool
-isBeforeUtc (Dated layout status weekday date time) = ltb (86400 * dayOf date + secondsOf time) (seasonShift status)
+isBeforeUtc (Dated layout status weekday date time) =
+    not (status .utc) && ltb (86400 * dayOf date + secondsOf time) (seasonShift (status .daylight))
 isBeforeUtc (TimeOnly layout time) = false
 
 abbrev pub utcRules : Record → List Rule

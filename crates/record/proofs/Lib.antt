@@ -1,4 +1,4 @@
 pub mod RuleLaws
-pub mod NextLaws
 pub mod UtcLaws
+pub mod NextLaws
 pub mod Whole

@@ -17,11 +17,13 @@ use Rattle.record.specs.declared.TimeLayout.{TimeLayout}
 use Rattle.record.specs.declared.Status.{Status}
 use Rattle.record.specs.declared.Record.{Record}
 use Rattle.record.specs.declared.Record.the-variants.{Dated, TimeOnly}
-use Rattle.record.specs.declared.utc.LocalSeconds.{LocalSeconds}
+use Rattle.record.specs.declared.season.Count.{Count}
+use Rattle.record.specs.Season.{secondsLater}
 use Rattle.record.specs.Rule.{weekdayAllowed, datedRefusal, refusalOf}
 use Rattle.record.specs.Next.{weekdayAfter, recordAfter, isLastOfCalendar, nextSecondOf}
-use Rattle.record.specs.Utc.{localSeconds}
+use Rattle.record.specs.Utc.{asMarked, countOf}
 use Rattle.record.proofs.RuleLaws.{Good, good, not-refused}
+use Rattle.record.proofs.UtcLaws.{marked-later}
 
 -- what the calendar says of the next second of a time
 told : (time next : Time) (carry : Bool) → nextSecond time ≡ done (next, carry)
@@ -74,11 +76,11 @@ weekday-in-week : (weekday : ℕ) → weekdayAllowed (weekdayAfter weekday) ≡ 
 unfolding weekdayAllowed
 weekday-in-week weekday = inside-holds 1 (weekdayAfter weekday) 7 (omega arith) (omega arith)
 
--- What comes after a good record with a date is good, and one local second later.
+-- What comes after a good record with a date is good, and one second later.
 module _ (layout : DatedLayout) (status : Status) (weekday : ℕ) (date : Date) (time : Time) where
   record After (next : Record) : Type 0 where
     pub is-good : refusalOf next ≡ 0
-    pub second : localSeconds next ≡ done (record { 0 = 86400 * dayOf date + secondsOf time + 1 })
+    pub second : countOf next ≡ done (asMarked (status .utc) (86400 * dayOf date + secondsOf time + 1))
 
   module _ (none : datedRefusal layout status weekday date time ≡ 0) where
     g : Good layout status weekday date time
@@ -92,7 +94,7 @@ module _ (layout : DatedLayout) (status : Status) (weekday : ℕ) (date : Date) 
         → After (Dated layout status weekday′ date′ (timeAfter time))
     later weekday′ date′ fine e =
         let none′ = not-refused layout status weekday′ date′ (timeAfter time) fine in
-        record { is-good = none′; second = does _ none′ ∙ ap done (λ i. record { 0 = e i }) }
+        record { is-good = none′; second = does _ none′ ∙ ap (λ seconds. done (asMarked (status .utc) seconds)) e }
 
     -- within the day
     day-goes-on : isLastSecond time ≡ false → After (Dated layout status weekday date (timeAfter time))
@@ -145,13 +147,14 @@ next-good (TimeOnly layout time) next e =
     let parts = else-none (timeRefusal time) _ (made .0) in
     rw (← made .1) (time-not-refused (timeAfter time) (time-after time (time-good time (parts .0)) .good))
 
--- the next second of a record with a date is one local second later
-pub next-is-later : (rec next : Record) (local : LocalSeconds) → nextSecondOf rec ≡ done next → localSeconds rec ≡ done local
-    → localSeconds next ≡ done (record { 0 = local .0 + 1 })
+-- the next second of a record with a date is one second later, local or UTC as it was
+pub next-is-later : (rec next : Record) (count : Count) → nextSecondOf rec ≡ done next → countOf rec ≡ done count
+    → countOf next ≡ done (secondsLater 1 count)
 unfolding nextSecondOf
-next-is-later (Dated layout status weekday date time) next local e f =
+next-is-later (Dated layout status weekday date time) next count e f =
     let made = was-done _ (recordAfter (Dated layout status weekday date time)) next e in
     let parts = else-none (datedRefusal layout status weekday date time) _ (made .0) in
-    let here = was-done (datedRefusal layout status weekday date time) _ local f in
-    rw (← made .1, ← here .1) (dated-after layout status weekday date time (parts .0) (when-none 11 _ (parts .1)) .second)
-next-is-later (TimeOnly layout time) next local e f = let z : _≡_ {A = ℕ} 0 1 = cc in absurd (omega arith)
+    let here = was-done (datedRefusal layout status weekday date time) _ count f in
+    rw (← made .1, ← here .1, ← marked-later (status .utc) (86400 * dayOf date + secondsOf time) 1)
+    (dated-after layout status weekday date time (parts .0) (when-none 11 _ (parts .1)) .second)
+next-is-later (TimeOnly layout time) next count e f = let z : _≡_ {A = ℕ} 0 1 = cc in absurd (omega arith)

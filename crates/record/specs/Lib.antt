@@ -1,3 +1,4 @@
+pub mod Season
 pub mod Rule
 pub mod Next
 pub mod Utc

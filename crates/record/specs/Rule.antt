@@ -62,3 +62,8 @@ datedRefusal layout status weekday date time =
 abbrev pub refusalOf : Record → ℕ
 refusalOf (Dated layout status weekday date time) = datedRefusal layout status weekday date time
 refusalOf (TimeOnly layout time) = timeRefusal time
+
+-- "a date is needed and the layout carries none": whether it carries one
+abbrev pub carriesDate : Record → Bool
+carriesDate (Dated layout status weekday date time) = true
+carriesDate (TimeOnly layout time) = false

@@ -2,6 +2,7 @@
 // So two records are equal exactly when they agree on every carried field.
 pub mod next;
 pub mod rule;
+pub mod season;
 pub mod utc;
 
 use calendar::date::Date;

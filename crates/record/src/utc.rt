@@ -1,83 +1,72 @@
-// Local seconds and UTC seconds, each a count of its own from 1 January 1980, 00:00.
+// A record's count of seconds, local or UTC as the record is marked, and its UTC seconds.
 use super::Record;
-use super::Status;
 use super::rule::refusal;
+use super::season::Count;
+use super::season::LocalSeconds;
+use super::season::UtcAnswer;
+use super::season::UtcSeconds;
+use super::season::to_utc;
 use calendar::date::DayAnswer;
 use calendar::time::SecondAnswer;
 use refusals::NO_DATE;
 use refusals::NONE;
-use refusals::OUTSIDE_CALENDAR;
 ghost use mathlib.Core.Path.{_≡_};
-ghost use Rattle.record.specs.Utc.{seasonShift, localSeconds, toUtc, utcSeconds};
-ghost use Rattle.record.specs.Answers.{localAnswer, utcAnswer};
+ghost use Rattle.record.specs.Utc.{asMarked, countOf, inUtc, utcSeconds};
+ghost use Rattle.record.specs.Answers.{countAnswer, utcAnswer};
 
-pub struct LocalSeconds(pub u32);
-
-pub struct UtcSeconds(pub u32);
-
-pub enum LocalAnswer {
-    Local(LocalSeconds),
+pub enum CountAnswer {
+    Counted(Count),
     Refused(u8),
 }
 
-pub enum UtcAnswer {
-    Utc(UtcSeconds),
-    Refused(u8),
-}
-
-// How far local time is ahead of UTC.
-fn season_shift(status: Status) -> u32
-    ensures { λ r. ⌜ r ≡ seasonShift status ⌝ }
+fn as_marked(utc: bool, seconds: u32) -> Count
+    ensures { λ r. ⌜ r ≡ asMarked utc seconds ⌝ }
 {
-    if status.utc {
-        return 0;
+    if utc {
+        return Count::Utc(UtcSeconds(seconds));
     }
-    if status.daylight {
-        return 7200;
-    }
-    3600
+    Count::Local(LocalSeconds(seconds))
 }
 
-// The season shift is the only way from local seconds to UTC seconds.
-pub fn to_utc(local: LocalSeconds, status: Status) -> UtcAnswer
-    ensures { λ r. ⌜ utcAnswer r ≡ toUtc local status ⌝ }
-{
-    let shift = season_shift(status);
-    if local.0 < shift {
-        return UtcAnswer::Refused(OUTSIDE_CALENDAR);
-    }
-    UtcAnswer::Utc(UtcSeconds(local.0 - shift))
-}
-
-pub fn local_seconds(rec: Record) -> LocalAnswer
-    ensures { λ r. ⌜ localAnswer r ≡ localSeconds rec ⌝ }
+pub fn count(rec: Record) -> CountAnswer
+    ensures { λ r. ⌜ countAnswer r ≡ countOf rec ⌝ }
 {
     let refused = refusal(rec);
     if refused != NONE {
-        return LocalAnswer::Refused(refused);
+        return CountAnswer::Refused(refused);
     }
     match rec {
-        Record::TimeOnly(_, _) => LocalAnswer::Refused(NO_DATE),
-        Record::Dated(_, _, _, date, time) => match calendar::date::day_number(date) {
-            DayAnswer::Refused(number) => LocalAnswer::Refused(number),
+        Record::TimeOnly(_, _) => CountAnswer::Refused(NO_DATE),
+        Record::Dated(_, status, _, date, time) => match calendar::date::day_number(date) {
+            DayAnswer::Refused(number) => CountAnswer::Refused(number),
             DayAnswer::Day(day) => match calendar::time::second_of_day(time) {
-                SecondAnswer::Refused(number) => LocalAnswer::Refused(number),
+                SecondAnswer::Refused(number) => CountAnswer::Refused(number),
                 SecondAnswer::Second(second) => {
-                    LocalAnswer::Local(LocalSeconds(86400 * day + second))
+                    CountAnswer::Counted(as_marked(status.utc, 86400 * day + second))
                 }
             },
         },
     }
 }
 
+// A count of UTC seconds is not shifted.
+fn in_utc(daylight: bool, counted: Count) -> UtcAnswer
+    ensures { λ r. ⌜ utcAnswer r ≡ inUtc daylight counted ⌝ }
+{
+    match counted {
+        Count::Local(local) => to_utc(local, daylight),
+        Count::Utc(utc) => UtcAnswer::Utc(utc),
+    }
+}
+
 pub fn utc_seconds(rec: Record) -> UtcAnswer
     ensures { λ r. ⌜ utcAnswer r ≡ utcSeconds rec ⌝ }
 {
-    match local_seconds(rec) {
-        LocalAnswer::Refused(number) => UtcAnswer::Refused(number),
-        LocalAnswer::Local(local) => match rec {
+    match count(rec) {
+        CountAnswer::Refused(number) => UtcAnswer::Refused(number),
+        CountAnswer::Counted(counted) => match rec {
             Record::TimeOnly(_, _) => UtcAnswer::Refused(NO_DATE),
-            Record::Dated(_, status, _, _, _) => to_utc(local, status),
+            Record::Dated(_, status, _, _, _) => in_utc(status.daylight, counted),
         },
     }
 }

@@ -1,20 +1,20 @@
--- `record::utc::local_seconds` meets its contract: each way it ends is a law of the definition.
+-- `record::utc::count` meets its contract: each way it ends is a law of the definition.
 use mathlib.Core.Path.{sym, ap, _∙_}
 use native.Mathlib.Omega.{arith}
-use Rattle.refusals.specs.Refusals.{refused, _else_}
+use Rattle.refusals.specs.Refusals.{done, refused, _else_}
 use Rattle.calendar.specs.Answers.{dayAnswer, secondAnswer}
 use Rattle.calendar.proofs.Laws.{day-number-bound, second-bound}
-use Rattle.record.specs.Utc.{localSeconds}
-use Rattle.record.proofs.UtcLaws.{local-refused, has-day, has-second, local-is}
+use Rattle.record.specs.Utc.{countOf}
+use Rattle.record.proofs.UtcLaws.{count-refused, has-day, has-second, count-is}
 use borrow.Author.Needs.{needs}
-use Rattle.record.proofs.utc.local_seconds.Statement.{statement}
-use Rattle.record.proofs.utc.local_seconds.Tie as tie
+use Rattle.record.proofs.utc.count.Statement.{statement}
+use Rattle.record.proofs.utc.count.Tie as tie
 
 refusal-requires : tie.Need-refusal-requires
 refusal-requires c κs = search needs
 
 returns : tie.Need-returns
-returns c = local-refused (c .before .before .args .rec) _ (c .before .refusal .ensures) (c .if1 .taken)
+returns c = count-refused (c .before .before .args .rec) _ (c .before .refusal .ensures) (c .if1 .taken)
 
 enum-told : tie.Need-enum-told
 enum-told c = search needs
@@ -40,18 +40,21 @@ enum-known-number-2 c = search needs
 enum-known-second : tie.Need-enum-known-second
 enum-known-second c = search needs
 
-mul-t15 : tie.Need-mul-t15
-mul-t15 c = omega (arith, day-number-bound _ _ (sym (c .before .before .before .before .before .before .before .day-number .ensures) ∙ ap dayAnswer (c .before .before .before .before .before .day .given .1)))
+mul-as-marked : tie.Need-mul-as-marked
+mul-as-marked c = omega (arith, day-number-bound _ _ (sym (c .before .before .before .before .before .before .before .day-number .ensures) ∙ ap dayAnswer (c .before .before .before .before .before .day .given .1)))
 
-add-t16 : tie.Need-add-t16
-add-t16 c =
+add-as-marked : tie.Need-add-as-marked
+add-as-marked c =
     omega
     (arith, day-number-bound _ _ (sym (c .before .before .before .before .before .before .before .day-number .ensures) ∙ ap dayAnswer (c .before .before .before .before .before .day .given .1)), second-bound _ _ (sym (c .before .before .before .second-of-day .ensures) ∙ ap secondAnswer (c .before .second .given .1)))
+
+as-marked-requires : tie.Need-as-marked-requires
+as-marked-requires c κs = search needs
 
 returns-2 : tie.Need-returns-2
 returns-2 c =
     let none = rw (c .enum-told .given .1) at (sym (c .before .before .before .refusal .ensures) ∙ c .before .before .if1 .left) in
-    ap (λ k. refused (k else 14)) (sym none) ∙ ap localSeconds (sym (c .enum-told .given .1))
+    ap (λ k. refused (k else 14)) (sym none) ∙ ap countOf (sym (c .enum-told .given .1))
 
 returns-3 : tie.Need-returns-3
 returns-3 c =
@@ -65,12 +68,13 @@ returns-4 c =
 
 returns-5 : tie.Need-returns-5
 returns-5 c =
-    let none = rw (c .before .before .before .before .before .before .before .before .before .rec .given .1) at (sym (c .before .before .before .before .before .before .before .before .before .before .before .before .refusal .ensures) ∙ c .before .before .before .before .before .before .before .before .before .before .before .if1 .left) in
-    local-is _ _ _ _ _ none _ _ (sym (c .before .before .before .before .before .before .before .day-number .ensures) ∙ ap dayAnswer (c .before .before .before .before .before .day .given .1)) (sym (c .before .before .before .second-of-day .ensures) ∙ ap secondAnswer (c .before .second .given .1))
-    ∙ ap localSeconds (sym (c .before .before .before .before .before .before .before .before .before .rec .given .1))
+    let none = rw (c .before .before .before .before .before .before .before .before .before .before .rec .given .1) at (sym (c .before .before .before .before .before .before .before .before .before .before .before .before .before .refusal .ensures) ∙ c .before .before .before .before .before .before .before .before .before .before .before .before .if1 .left) in
+    ap done (c .as-marked .ensures)
+    ∙ count-is _ _ _ _ _ none _ _ (sym (c .before .before .before .before .before .before .before .before .day-number .ensures) ∙ ap dayAnswer (c .before .before .before .before .before .before .day .given .1)) (sym (c .before .before .before .before .second-of-day .ensures) ∙ ap secondAnswer (c .before .before .second .given .1))
+    ∙ ap countOf (sym (c .before .before .before .before .before .before .before .before .before .before .rec .given .1))
 
-pub local-seconds-spec : {M : Type 1} → statement M
-local-seconds-spec =
+pub count-spec : {M : Type 1} → statement M
+count-spec =
     tie.close
     (tie.spec
     refusal-requires
@@ -83,8 +87,9 @@ local-seconds-spec =
     second-of-day-requires
     enum-known-number-2
     enum-known-second
-    mul-t15
-    add-t16
+    mul-as-marked
+    add-as-marked
+    as-marked-requires
     returns-2
     returns-3
     returns-4
