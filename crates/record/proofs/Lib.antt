@@ -1,4 +1,5 @@
 pub mod RuleLaws
 pub mod UtcLaws
 pub mod NextLaws
+pub mod AsPrintedHolds
 pub mod Whole

@@ -3,3 +3,4 @@ pub mod Rule
 pub mod Next
 pub mod Utc
 pub mod Answers
+pub mod AsPrinted
