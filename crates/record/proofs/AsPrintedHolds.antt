@@ -5,9 +5,9 @@ use Rattle.calendar.specs.Calendar.{isLeap, monthLength, monthInRange, dateInRa
 use Rattle.calendar.specs.TimeOfDay.{timeInRange, timeRefusal, secondsOf}
 use Rattle.record.specs.Season.{seasonShift, toUtc}
 use Rattle.record.specs.Rule.{plainUtc, tableCanSay, statusAllowed, weekdayAllowed, weekdayAgrees, datedRefusal}
-use Rattle.record.specs.AsPrinted.{TheTableHolds}
+use Rattle.record.specs.AsPrinted.{RecordsAreAsPrinted}
 
-pub as-printed : TheTableHolds
+pub as-printed : RecordsAreAsPrinted
 unfolding unless isLeap monthLength monthInRange dateInRange dayExists monthStart dayOf timeInRange timeRefusal secondsOf plainUtc tableCanSay statusAllowed weekdayAllowed weekdayAgrees datedRefusal seasonShift toUtc
 as-printed =
-    (refl, (refl, (refl, (refl, (refl, (refl, (refl, (refl, (refl, (refl, (refl, (refl, (refl, (refl, (refl, (refl, (refl, (refl, (refl, (refl, (refl, (refl, (refl, (refl, (refl, (refl, tt))))))))))))))))))))))))))
+    (refl, (refl, (refl, (refl, (refl, (refl, (refl, (refl, (refl, (refl, (refl, (refl, (refl, (refl, (refl, (refl, (refl, (refl, (refl, (refl, (refl, (refl, (refl, (refl, (refl, (refl, (refl, tt)))))))))))))))))))))))))))

@@ -23,16 +23,16 @@ use Rattle.record.specs.Utc.{countOf, utcSeconds}
 
 -- a row: a record and the number that refuses it, its count, or its UTC seconds; or a local second and a season, and the UTC second
 pub data Row : Type 0 where
-  judged : Record → ℕ → Row
-  counted : Record → Outcome Count → Row
-  inUtc : Record → Outcome UtcSeconds → Row
-  shifted : LocalSeconds → Bool → Outcome UtcSeconds → Row
+  refusalIs : Record → ℕ → Row
+  countIs : Record → Outcome Count → Row
+  utcIs : Record → Outcome UtcSeconds → Row
+  shiftIs : LocalSeconds → Bool → Outcome UtcSeconds → Row
 
 abbrev pub Holds : Row → Type 0
-Holds (judged rec number) = refusalOf rec ≡ number
-Holds (counted rec outcome) = countOf rec ≡ outcome
-Holds (inUtc rec outcome) = utcSeconds rec ≡ outcome
-Holds (shifted local daylight outcome) = toUtc local daylight ≡ outcome
+Holds (refusalIs rec number) = refusalOf rec ≡ number
+Holds (countIs rec outcome) = countOf rec ≡ outcome
+Holds (utcIs rec outcome) = utcSeconds rec ≡ outcome
+Holds (shiftIs local daylight outcome) = toUtc local daylight ≡ outcome
 
 abbrev pub EveryRowHolds : List Row → Type 0
 EveryRowHolds [] = Unit {0}
@@ -49,53 +49,55 @@ time hour minute second = record { hour = hour; minute = minute; second = second
 abbrev pub status : Reception → Bool → Bool → Bool → Status
 status reception daylight utc announced = record { reception = reception; daylight = daylight; utc = utc; announced = announced }
 
-abbrev pub standard : Status
-standard = status Radio false false false
+abbrev pub standardTime : Status
+standardTime = status Radio false false false
 
-abbrev pub daylight : Status
-daylight = status Radio true false false
+abbrev pub daylightTime : Status
+daylightTime = status Radio true false false
 
-abbrev pub utc : Status
-utc = status Radio false true false
+abbrev pub markedUtc : Status
+markedUtc = status Radio false true false
 
--- a record: layout, status, weekday, date, time
-abbrev pub table : List Row
-table =
+-- A record: layout, status, weekday, date, time
+abbrev pub asPrinted : List Row
+asPrinted =
     -- "local is UTC plus 3,600 in standard time, plus 7,200 in daylight time; a record marked UTC is not shifted"
-    inUtc (Dated L6021 standard 3 (date 1996 1 3) (time 12 34 56)) (done (record { 0 = 505136096 }))
-    ∷ inUtc (Dated L6021 daylight 3 (date 1996 4 17) (time 12 34 56)) (done (record { 0 = 514204496 }))
-    ∷ inUtc (Dated L6021 utc 3 (date 1996 1 3) (time 12 34 56)) (done (record { 0 = 505139696 }))
+    utcIs (Dated L6021 standardTime 3 (date 1996 1 3) (time 12 34 56)) (done (record { 0 = 505136096 }))
+    ∷ utcIs (Dated L6021 daylightTime 3 (date 1996 4 17) (time 12 34 56)) (done (record { 0 = 514204496 }))
+    ∷ utcIs (Dated L6021 markedUtc 3 (date 1996 1 3) (time 12 34 56)) (done (record { 0 = 505139696 }))
+    ∷ utcIs (Dated L6021 (status Radio true true false) 3 (date 1996 1 3) (time 12 34 56)) (done (record { 0 = 505139696 }))
     -- "before 1.1.1980 00:00 UTC: 12"
-    ∷ inUtc (Dated L6021 standard 2 (date 1980 1 1) (time 1 0 0)) (done (record { 0 = 0 }))
-    ∷ inUtc (Dated L6021 standard 2 (date 1980 1 1) (time 0 59 59)) (refused 12)
-    ∷ inUtc (Dated L6021 daylight 2 (date 1980 1 1) (time 2 0 0)) (done (record { 0 = 0 }))
-    ∷ inUtc (Dated L6021 daylight 2 (date 1980 1 1) (time 1 59 59)) (refused 12)
+    ∷ utcIs (Dated L6021 standardTime 2 (date 1980 1 1) (time 1 0 0)) (done (record { 0 = 0 }))
+    ∷ utcIs (Dated L6021 standardTime 2 (date 1980 1 1) (time 0 59 59)) (refused 12)
+    ∷ utcIs (Dated L6021 daylightTime 2 (date 1980 1 1) (time 2 0 0)) (done (record { 0 = 0 }))
+    ∷ utcIs (Dated L6021 daylightTime 2 (date 1980 1 1) (time 1 59 59)) (refused 12)
     -- "the result lies outside the calendar", whose last second is 3,155,759,999
-    ∷ shifted (record { 0 = 3155763599 }) false (done (record { 0 = 3155759999 }))
-    ∷ shifted (record { 0 = 3155763600 }) false (refused 12)
-    ∷ shifted (record { 0 = 3155767199 }) true (done (record { 0 = 3155759999 }))
-    ∷ shifted (record { 0 = 3155767200 }) true (refused 12)
-    ∷ shifted (record { 0 = 4294967295 }) false (refused 12)
+    ∷ shiftIs (record { 0 = 3155763599 }) false (done (record { 0 = 3155759999 }))
+    ∷ shiftIs (record { 0 = 3155763600 }) false (refused 12)
+    ∷ shiftIs (record { 0 = 3155767199 }) true (done (record { 0 = 3155759999 }))
+    ∷ shiftIs (record { 0 = 3155767200 }) true (refused 12)
+    ∷ shiftIs (record { 0 = 4294967295 }) false (refused 12)
     -- "a count of local seconds and a count of UTC seconds are kept apart"
-    ∷ counted (Dated L6021 standard 2 (date 1980 1 1) (time 12 0 0)) (done (Local (record { 0 = 43200 })))
-    ∷ counted (Dated L6021 utc 2 (date 1980 1 1) (time 12 0 0)) (done (Utc (record { 0 = 43200 })))
+    ∷ countIs (Dated L6021 standardTime 2 (date 1980 1 1) (time 12 0 0)) (done (Local (record { 0 = 43200 })))
+    ∷ countIs (Dated L6021 markedUtc 2 (date 1980 1 1) (time 12 0 0)) (done (Utc (record { 0 = 43200 })))
     -- "a date is needed and the layout carries none"
-    ∷ counted (TimeOnly T6021 (time 12 0 0)) (refused 14)
-    ∷ inUtc (TimeOnly T6021 (time 12 0 0)) (refused 14)
+    ∷ countIs (TimeOnly T6021 (time 12 0 0)) (refused 14)
+    ∷ utcIs (TimeOnly T6021 (time 12 0 0)) (refused 14)
     -- "a 5500 or 5050 record with reception invalid or high accuracy, or UTC with summer or announced": 5
-    ∷ judged (Dated L5500 (status Invalid false false false) 3 (date 1996 1 3) (time 12 34 56)) 5
-    ∷ judged (Dated L5050 (status High false false false) 3 (date 1996 1 3) (time 12 34 56)) 5
-    ∷ judged (Dated L5500 (status Radio true true false) 3 (date 1996 1 3) (time 12 34 56)) 5
-    ∷ judged (Dated L5050 (status Crystal false true true) 3 (date 1996 1 3) (time 12 34 56)) 5
-    ∷ judged (Dated L5500 (status Crystal true false true) 3 (date 1996 1 3) (time 12 34 56)) 0
+    ∷ refusalIs (Dated L5500 (status Invalid false false false) 3 (date 1996 1 3) (time 12 34 56)) 5
+    ∷ refusalIs (Dated L5050 (status High false false false) 3 (date 1996 1 3) (time 12 34 56)) 5
+    ∷ refusalIs (Dated L5500 (status Radio true true false) 3 (date 1996 1 3) (time 12 34 56)) 5
+    ∷ refusalIs (Dated L5050 (status Crystal false true true) 3 (date 1996 1 3) (time 12 34 56)) 5
+    ∷ refusalIs (Dated L5500 (status Crystal true false true) 3 (date 1996 1 3) (time 12 34 56)) 0
     -- of 6021 and 2000 "all sixteen are legal"; "with UTC the daylight bit is still carried as it stands"
-    ∷ judged (Dated L6021 (status High true true true) 3 (date 1996 1 3) (time 12 34 56)) 0
-    ∷ judged (Dated L2000 (status Invalid true true true) 3 (date 1996 1 3) (time 12 34 56)) 0
+    ∷ refusalIs (Dated L6021 (status High true true true) 3 (date 1996 1 3) (time 12 34 56)) 0
+    ∷ refusalIs (Dated L2000 (status Invalid true true true) 3 (date 1996 1 3) (time 12 34 56)) 0
     -- "1 Monday to 7 Sunday", and 3 January 1996 a Wednesday
-    ∷ judged (Dated L6021 standard 0 (date 1996 1 3) (time 12 34 56)) 5
-    ∷ judged (Dated L6021 standard 8 (date 1996 1 3) (time 12 34 56)) 5
-    ∷ judged (Dated L6021 standard 7 (date 1996 1 3) (time 12 34 56)) 8
+    ∷ refusalIs (Dated L6021 standardTime 0 (date 1996 1 3) (time 12 34 56)) 5
+    ∷ refusalIs (Dated L6021 standardTime 8 (date 1996 1 3) (time 12 34 56)) 5
+    ∷ refusalIs (Dated L6021 standardTime 7 (date 1996 1 3) (time 12 34 56)) 8
     ∷ []
 
-abbrev pub TheTableHolds : Type 0
-TheTableHolds = EveryRowHolds table
+-- one statement over the table
+abbrev pub RecordsAreAsPrinted : Type 0
+RecordsAreAsPrinted = EveryRowHolds asPrinted
