@@ -55,7 +55,7 @@ def cost(plugin, command, letter, unit, few, many):
 
 def main():
     kit = toolchain()
-    run("rt", "check", "bench")
+    run("rt", "check", "measured")
     with tempfile.TemporaryDirectory() as folder:
         plugin, plain = folder + "/count.so", folder + "/reader"
         run("cc", "-O2", "-shared", "-fPIC", "-o", plugin, HERE / "count.c")
@@ -63,7 +63,7 @@ def main():
             HERE / "reader.c")
         run(kit / "bin" / "ld.lld", "-static", "-o", plain, plain + ".o")
         library = kit / "lib"
-        proved = [library / "ld-linux-x86-64.so.2", "--library-path", library, ROOT / "target" / "bin" / "bench"]
+        proved = [library / "ld-linux-x86-64.so.2", "--library-path", library, ROOT / "target" / "bin" / "measured"]
         print("instructions for      proved   plain C   ratio")
         for name, letter, unit, few, many in WORK:
             ours, printed = cost(plugin, proved, letter, unit, few, many)

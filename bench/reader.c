@@ -1,5 +1,5 @@
 /* A plain C reader of the same telegrams and lines, to be measured beside the proved one: the same seven layouts, the same refusals,
-   the same byte by byte reader. It takes what the program `bench` takes, and prints what that prints: a letter, r or l, and then
+   the same byte by byte reader. It takes what the program `measured` takes, and prints what that prints: a letter, r or l, and then
    6021 telegrams of 18 bytes to read, or a line to feed. */
 typedef unsigned char byte;
 typedef unsigned int count;

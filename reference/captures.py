@@ -1,4 +1,4 @@
-"""Lines for the program `lines`, damaged ones and the samples, and the listing that it should print for each.
+"""Lines for the program `test_lines`, damaged ones and the samples, and the listing that it should print for each.
 
 The program gets a line in pieces: two bytes that say how long a piece is, the higher first, and the piece. 65535 for a length ends
 the line, and what follows is a line of its own.

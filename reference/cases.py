@@ -1,4 +1,4 @@
-"""The cases of the program `cases`, and what it should print for each."""
+"""The cases of the program `test_cases`, and what it should print for each."""
 
 import random
 import sys

@@ -1,4 +1,4 @@
-"""How a case is handed to the program `cases`, and how the program prints an outcome.
+"""How a case is handed to the program `test_cases`, and how the program prints an outcome.
 
 A case is a letter, a length and that many bytes. An outcome is a line of numbers, each with a space behind it: a refusal is its
 number, and anything else is 0 and its values. The heads of the program's files say the same.

@@ -19,11 +19,11 @@ ROOT = pathlib.Path(__file__).resolve().parent.parent
 def made():
     """Each file with its content."""
     every = list(cases.all_cases())
-    yield "crates/cases/stdin", b"".join(given for given, _ in every)
-    yield "crates/cases/stdout", b"".join(expected for _, expected in every)
+    yield "crates/test_cases/stdin", b"".join(given for given, _ in every)
+    yield "crates/test_cases/stdout", b"".join(expected for _, expected in every)
     lines = list(captures.all_lines())
-    yield "crates/lines/stdin", b"".join(given for given, _ in lines)
-    yield "crates/lines/stdout", b"".join(expected for _, expected in lines)
+    yield "crates/test_lines/stdin", b"".join(given for given, _ in lines)
+    yield "crates/test_lines/stdout", b"".join(expected for _, expected in lines)
     yield "crates/dialspark/stdin", samples.PRINTED
     yield "crates/dialspark/stdout", listing.listing(samples.PRINTED)
     for name, captured in samples.SAMPLES.items():

@@ -1,8 +1,8 @@
--- `lines::main` is safe and ends. The measure is the number of turns that are left.
+-- `test_lines::main` is safe and ends. The measure is the number of turns that are left.
 use native.Mathlib.Omega.{arith}
 use borrow.Author.Needs.{needs}
-use Rattle.lines.proofs.main.Statement.{statement}
-use Rattle.lines.proofs.main.Tie as tie
+use Rattle.test_lines.proofs.main.Statement.{statement}
+use Rattle.test_lines.proofs.main.Tie as tie
 
 abbrev Inv-loop : tie.InvT-loop
 Inv-loop length₀ printer₀ turns₀ length printer turns = Unit {0}

@@ -1,11 +1,11 @@
--- `cases::telegrams::writes_several` is safe and ends.
+-- `test_cases::telegrams::writes_several` is safe and ends.
 use native.Mathlib.Omega.{arith}
 use borrow.Author.Needs.{needs}
 use mathlib.Core.Path.{_≡_, refl, _∙_}
 use Prim.Native.Nat.{_-_}
 use lib.ListN.{length}
-use Rattle.cases.proofs.telegrams.writes_several.Statement.{statement}
-use Rattle.cases.proofs.telegrams.writes_several.Tie as tie
+use Rattle.test_cases.proofs.telegrams.writes_several.Statement.{statement}
+use Rattle.test_cases.proofs.telegrams.writes_several.Tie as tie
 
 abbrev Inv-loop : tie.InvT-loop
 Inv-loop bytes choice room out₀ several₀ at₀ out several at = length out ≡ 64

@@ -1,10 +1,10 @@
--- `cases::outputs::print_bytes` is safe and ends.
+-- `test_cases::outputs::print_bytes` is safe and ends.
 use native.Mathlib.Omega.{arith}
 use borrow.Author.Needs.{needs}
 use Prim.Native.Nat.{_-_}
 use lib.ListN.{length}
-use Rattle.cases.proofs.outputs.print_bytes.Statement.{statement}
-use Rattle.cases.proofs.outputs.print_bytes.Tie as tie
+use Rattle.test_cases.proofs.outputs.print_bytes.Statement.{statement}
+use Rattle.test_cases.proofs.outputs.print_bytes.Tie as tie
 
 abbrev Inv-loop : tie.InvT-loop
 Inv-loop bytes at₀ at = Unit {0}

@@ -1,11 +1,11 @@
--- `bench::each` is safe and ends: each turn takes 18 bytes.
+-- `measured::each` is safe and ends: each turn takes 18 bytes.
 use native.Mathlib.Omega.{arith}
 use borrow.Author.Needs.{needs}
 use Prim.Native.Nat.{_-_, _≤_}
 use lib.ListN.{length}
 use borrow.Author.Tests.{leb-true}
-use Rattle.bench.proofs.each.Statement.{statement}
-use Rattle.bench.proofs.each.Tie as tie
+use Rattle.measured.proofs.each.Statement.{statement}
+use Rattle.measured.proofs.each.Tie as tie
 
 abbrev Inv-loop : tie.InvT-loop
 Inv-loop mode «data» good₀ at₀ good at = (at ≤ length «data») × (good ≤ at)

@@ -1,8 +1,8 @@
--- `cases::main` is safe and ends. The measure is the number of turns that are left.
+-- `test_cases::main` is safe and ends. The measure is the number of turns that are left.
 use native.Mathlib.Omega.{arith}
 use borrow.Author.Needs.{needs}
-use Rattle.cases.proofs.main.Statement.{statement}
-use Rattle.cases.proofs.main.Tie as tie
+use Rattle.test_cases.proofs.main.Statement.{statement}
+use Rattle.test_cases.proofs.main.Tie as tie
 
 abbrev Inv-loop : tie.InvT-loop
 Inv-loop turns₀ turns = Unit {0}

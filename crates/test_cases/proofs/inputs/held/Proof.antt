@@ -1,11 +1,11 @@
--- `cases::inputs::held` is safe and ends.
+-- `test_cases::inputs::held` is safe and ends.
 use native.Mathlib.Omega.{arith}
 use borrow.Author.Needs.{needs}
 use mathlib.Core.Path.{_≡_, refl, _∙_}
 use Prim.Native.Nat.{_-_}
 use lib.ListN.{length, length-set}
-use Rattle.cases.proofs.inputs.held.Statement.{statement}
-use Rattle.cases.proofs.inputs.held.Tie as tie
+use Rattle.test_cases.proofs.inputs.held.Statement.{statement}
+use Rattle.test_cases.proofs.inputs.held.Tie as tie
 
 abbrev Inv-loop : tie.InvT-loop
 Inv-loop bytes held₀ at₀ held at = length held ≡ 24

@@ -1,11 +1,11 @@
--- `bench::events` is safe and ends: a turn that takes no byte is the last.
+-- `measured::events` is safe and ends: a turn that takes no byte is the last.
 use native.Mathlib.Omega.{arith}
 use borrow.Author.Needs.{needs}
 use Prim.Native.Nat.{_-_, _≤_}
 use lib.ListN.{length}
 use Rattle.line.proofs.PieceLaws.{end-fits}
-use Rattle.bench.proofs.events.Statement.{statement}
-use Rattle.bench.proofs.events.Tie as tie
+use Rattle.measured.proofs.events.Statement.{statement}
+use Rattle.measured.proofs.events.Tie as tie
 
 abbrev Inv-loop : tie.InvT-loop
 Inv-loop «data» size reader₀ heard₀ at₀ reader heard at = at ≤ length «data»
