@@ -6,64 +6,146 @@ the line, and what follows is a line of its own.
 
 import collections
 import random
+import sys
 
+sys.dont_write_bytecode = True  # leaves no files behind
+
+import line
 import listing
 import making
 import samples
 from layouts import LAYOUTS
 
 SEED = 6036
-LINES = 120
-BYTES = 300_000
+LONGEST = 4096   # the program's buffer for a piece
 END = b"\xff\xff"
 
-# Each layout, and each refusal that a line can give, has to occur so often.
+STX, ETX = b"\x02", b"\x03"
+
+# There have to be so many bytes, and each layout and each refusal that a line can give has to occur so often.
+BYTES = 300_000
 AT_LEAST = 20
 WANTED = list(LAYOUTS) + [1, 3, 4, 5, 6, 7, 8, 9, 10, 11]
+
+# What has to occur so often among the pieces: see `kinds_of`.
+WANTED_PIECES = ["empty", "one byte", "longest", "ends behind STX", "ends before ETX", "ends behind ETX", "ends inside", "ends outside",
+                 "32 events", "more than 32 events"]
+
+
+# --- lines ---
+
+def crowd(dice):
+    """Events close together: STX behind STX gives a 9 each, ETX behind STX a 1."""
+    return dice.choice([STX, STX + ETX, STX + b"12" + ETX]) * dice.choice([31, 32, 33, 34, 64, 65, dice.randrange(1, 200)])
 
 
 def damaged_line(dice, size):
     """A line of about so many bytes."""
     captured = b""
     while len(captured) < size:
-        captured += making.random_line(dice)
+        captured += crowd(dice) if dice.random() < 0.05 else making.random_line(dice)
     if dice.random() < 0.5:
-        captured += b"\x02" + making.telegram_of(making.good_record(dice), True)[1:dice.randrange(2, 10)]
+        captured += STX + making.telegram_of(making.good_record(dice), True)[1:dice.randrange(2, 10)]
     return captured
 
 
-def pieces_of(dice, captured):
-    """The line in pieces of any length, some of them empty."""
-    widest = dice.choice([1, 3, 20, 64, 1000, 4096])
-    while captured:
-        cut = dice.randrange(widest + 1)
-        yield captured[:cut]
-        captured = captured[cut:]
+# --- cuts ---
+
+def by_length(dice, captured):
+    """Cuts anywhere, at most so far apart."""
+    widest, at = dice.choice([1, 3, 20, 64, 1000, LONGEST]), 0
+    while at < len(captured):
+        at += dice.randrange(widest + 1)
+        yield at
 
 
-def handed_over(dice, captured):
+def around(byte, behind):
+    """Cuts before or behind each STX or each ETX."""
+    def cuts(dice, captured):
+        return [at + behind for at in range(len(captured)) if captured[at:at + 1] == byte]
+    return cuts
+
+
+def behind_32(dice, captured):
+    """Cuts behind each thirty-second event."""
+    state, at = line.fresh(), 0
+    while at < len(captured):
+        state, taken, _ = line.use_up(state, captured[at:])
+        at += taken
+        yield at
+
+
+def everywhere(dice, captured):
+    """Each byte alone."""
+    return range(1, len(captured))
+
+
+def nowhere(dice, captured):
+    """As little as the program's buffer allows."""
+    return range(LONGEST, len(captured), LONGEST)
+
+
+# Each kind of cut, for how many lines, and about how many bytes these have.
+CUTS = [(by_length, 40, 2500), (around(STX, 0), 10, 2500), (around(STX, 1), 10, 2500), (around(ETX, 0), 10, 2500),
+        (around(ETX, 1), 10, 2500), (behind_32, 10, 2500), (everywhere, 5, 2500), (nowhere, 12, 9000)]
+
+
+def pieces_of(dice, captured, cuts):
+    """The line in pieces, some of them empty, and none longer than the program's buffer."""
+    pieces, start = [], 0
+    for end in [*cuts(dice, captured), len(captured)]:
+        end = min(end, len(captured))
+        while end - start > LONGEST:
+            pieces.append(captured[start:start + LONGEST])
+            start += LONGEST
+        pieces.append(captured[start:end])
+        start = end
+    return pieces
+
+
+def handed_over(pieces):
     """A line as the program gets it."""
-    pieces = [len(piece).to_bytes(2, "big") + piece for piece in pieces_of(dice, captured)]
-    return b"".join(pieces) + END
+    return b"".join(len(piece).to_bytes(2, "big") + piece for piece in pieces) + END
 
+
+# --- what has to occur ---
 
 def kind_of(event):
     """An event's refusal, or its record's layout."""
     return event.outcome if isinstance(event.outcome, int) else event.outcome.layout
 
 
+def kinds_of(pieces):
+    """What is worth counting of each piece but the last: its length, what stands on both sides of its end, how many events it has."""
+    state = line.fresh()
+    for piece, following in zip(pieces, pieces[1:]):
+        rest, events = piece, 0
+        while rest:
+            state, taken, some = line.use_up(state, rest)
+            rest, events = rest[taken:], events + len(some)
+        yield from (kind for kind, holds in (
+            ("empty", piece == b""), ("one byte", len(piece) == 1), ("longest", len(piece) == LONGEST),
+            ("ends behind STX", piece.endswith(STX)), ("ends before ETX", state.length > 0 and following.startswith(ETX)),
+            ("ends behind ETX", piece.endswith(ETX)), ("ends inside", state.length > 0), ("ends outside", state.length == 0),
+            ("32 events", events == 32), ("more than 32 events", events > 32)) if holds)
+
+
 def check(lines):
     """Fails where there are too few bytes, or where something that has to occur does not occur often enough."""
-    seen = collections.Counter(kind_of(event) for captured in lines for event in listing.events_of(captured)[0])
-    rare = [kind for kind in WANTED if seen[kind] < AT_LEAST]
-    if rare or sum(map(len, lines)) < BYTES or set(seen) - set(WANTED):
-        raise AssertionError(f"lines of {sum(map(len, lines))} bytes: too rare {rare}, seen {dict(seen)}")
+    size = sum(len(piece) for pieces in lines for piece in pieces)
+    events = collections.Counter(kind_of(event) for pieces in lines for event in listing.events_of(b"".join(pieces))[0])
+    cuts = collections.Counter(kind for pieces in lines for kind in kinds_of(pieces))
+    rare = [kind for kind in WANTED if events[kind] < AT_LEAST] + [kind for kind in WANTED_PIECES if cuts[kind] < AT_LEAST]
+    if rare or size < BYTES or set(events) - set(WANTED):
+        raise AssertionError(f"lines of {size} bytes: too rare {rare}, events {dict(events)}, pieces {dict(cuts)}")
 
 
-def all_lines():
-    """Every line, as the program gets it and as it lists it. The last is empty."""
-    dice = random.Random(SEED)
-    damaged = [damaged_line(dice, BYTES // LINES) for _ in range(LINES)]
-    check(damaged)
-    for captured in damaged + list(samples.SAMPLES.values()) + [b""]:
-        yield handed_over(dice, captured), listing.listing(captured)
+def all_lines(seed=SEED):
+    """Every line, in pieces. The last has none."""
+    dice = random.Random(seed)
+    for cuts, lines, size in CUTS:
+        for _ in range(lines):
+            yield pieces_of(dice, damaged_line(dice, size), cuts)
+    for captured in samples.SAMPLES.values():
+        yield pieces_of(dice, captured, by_length)
+    yield []

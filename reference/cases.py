@@ -1,5 +1,6 @@
 """The cases of the program `test_cases`, and what it should print for each."""
 
+import collections
 import random
 import sys
 
@@ -11,13 +12,18 @@ import listing
 import making
 import manual_examples
 import parameter
+import places
 import records
 import telegrams
-from encoding import (answer_numbers, case, event_numbers, line as printed, parameter_bytes, parameter_numbers, record_bytes,
-                      record_numbers, setting_number, state_bytes, state_numbers)
-from layouts import LAYOUTS, TIME_ONLY, length
-from records import Dated, TimeOnly
+from days import Date, Time
+from encoding import (LAYOUT_NUMBERS, answer_numbers, case, count_numbers, date_bytes, event_numbers, layout_number, line as printed,
+                      parameter_bytes, parameter_numbers, record_bytes, record_numbers, row_bytes, setting_number, state_bytes,
+                      state_numbers)
+from layouts import LAYOUTS, STATUS_AS_5500, STATUS_AS_6021, TIME_ONLY, length
+from places import CODE, DECIMAL, FIXED, SLOTS, Place
+from records import Dated, LocalSeconds, TimeOnly
 from refusals import outcome
+from status import status_allowed, weekday_allowed
 from telegrams import Setting
 
 SEED = 1996
@@ -26,32 +32,44 @@ ONE, MANY, ROW = 32, 64, 80   # the program's buffers for one telegram, for seve
 
 SETTINGS = [None] + [Setting(control, advance) for advance in (False, True) for control in (False, True)]
 
-# The refusals that document 01 gives to an entry point; each has to occur.
+RECORD = {5, 6, 7, 8}
+
+# Each entry point by its letter, and the refusals that document 01 gives to it; each has to occur.
 OWN_REFUSALS = {
+    "D": {6, 7}, "d": {12}, "n": {6, 7, 12}, "M": {6}, "T": {6}, "t": {6},
+    "J": RECORD, "B": set(), "N": RECORD | {12}, "C": RECORD | {14}, "Z": {12}, "U": RECORD | {12, 14},
+    "K": RECORD | {12, 14}, "k": RECORD | {12, 14},
+    "P": set(), "Q": {16},
+    "A": {3, 4, 5}, "a": set(), "O": set(), "L": {1}, "I": set(), "i": set(),
     "R": {1, 2, 3, 4, 5, 6, 7, 8}, "r": {1, 3, 4, 5, 6, 7, 8},
-    "W": {5, 6, 7, 8, 12, 13, 14}, "S": {5, 6, 7, 8, 12, 13, 14},
-    "N": {5, 6, 7, 8, 12}, "K": {5, 6, 7, 8, 12, 14}, "U": {5, 6, 7, 8, 12, 14},
-    "D": {6, 7}, "d": {12}, "Q": {16},
-    "G": {13},
-    "F": {1, 3, 4, 5, 6, 7, 8, 9, 10, 15}, "E": {11, 15},
+    "W": RECORD | {12, 13, 14}, "S": RECORD | {12, 13, 14},
+    "f": set(), "w": set(), "F": {1, 3, 4, 5, 6, 7, 8, 9, 10, 15}, "V": {1, 3, 4, 5, 6, 7, 8, 9, 10, 15}, "E": {11, 15},
+    "H": {13}, "G": RECORD | {13}, "X": {13},
 }
 
 
 class Seen:
-    """Which refusals have occurred at which entry point."""
+    """How many cases each entry point had, and which refusals have occurred there."""
 
     def __init__(self):
+        self.cases = collections.Counter()
         self.numbers = {letter: set() for letter in OWN_REFUSALS}
 
     def note(self, letter, refusal):
+        self.cases[letter] += 1
+        self.more(letter, refusal)
+
+    def more(self, letter, refusal):
+        """A refusal that is no case of its own."""
         if refusal is not None:
             self.numbers[letter].add(refusal)
 
     def check(self):
-        """Fails where a refusal never occurred, or one that the entry point does not give did."""
+        """Fails where an entry point has no case, where a refusal never occurred, or one that the entry point does not give did."""
         for letter, wanted in OWN_REFUSALS.items():
-            if self.numbers[letter] != wanted:
-                raise AssertionError(f"case {letter}: refusals {sorted(self.numbers[letter])}, wanted {sorted(wanted)}")
+            if not self.cases[letter] or self.numbers[letter] != wanted:
+                raise AssertionError(f"case {letter}: {self.cases[letter]} cases, refusals {sorted(self.numbers[letter])}, "
+                                     f"wanted {sorted(wanted)}")
 
 
 SEEN = Seen()
@@ -59,22 +77,163 @@ SEEN = Seen()
 
 # --- one case of each kind ---
 
+def answered(letter, given, answer, numbers):
+    """A case whose outcome is a value or a refusal."""
+    value, refusal = answer
+    SEEN.note(letter, refusal)
+    return case(letter, given), printed(answer_numbers(value, refusal, numbers))
+
+
+def told(letter, given, numbers):
+    """A case whose entry point refuses nothing."""
+    SEEN.note(letter, None)
+    return case(letter, given), printed(numbers)
+
+
+def one(value):
+    """A value that is a number."""
+    return [value]
+
+
+def in_buffer(letter, given, room, size, write):
+    """A case that writes into the first bytes of a buffer, which is printed whole."""
+    buffer = bytearray([UNTOUCHED] * room)
+    used, refusal = outcome(write, buffer)
+    SEEN.note(letter, refusal)
+    whole = list(buffer) + [UNTOUCHED] * (size - room)
+    return case(letter, given), printed(answer_numbers(used, refusal, one) + whole)
+
+
+# Dates and times.
+
+def day_case(date):
+    """A date to number, with its weekday."""
+    return answered("D", date_bytes(date), outcome(days.day_number, date), lambda number: [number, days.weekday_of_number(number)])
+
+
+def date_case(number):
+    """A day number to date."""
+    return answered("d", number.to_bytes(4, "big"), outcome(days.date_of, number), list)
+
+
+def next_day_case(date):
+    """A date whose next day is wanted."""
+    return answered("n", date_bytes(date), outcome(days.next_day, date), list)
+
+
+def month_case(year, month):
+    """A month whose length is wanted."""
+    return answered("M", year.to_bytes(2, "big") + bytes([month]), outcome(days.days_in_month, year, month), one)
+
+
+def second_case(time):
+    """A time whose second of the day is wanted."""
+    return answered("T", bytes(time), outcome(days.second_of_day, time), one)
+
+
+def next_time_case(time):
+    """A time to advance by a second: whether midnight is passed, and the time."""
+    return answered("t", bytes(time), outcome(days.next_second, time), lambda later: [later[1], *later[0]])
+
+
+# Records and the clock.
+
+def rule_case(record):
+    """A record to judge: its refusal, or 0."""
+    return answered("J", record_bytes(record), outcome(records.check_record, record), lambda _: [])
+
+
+def table_case(layout):
+    """A layout that may have the status table of the 6021."""
+    return told("B", bytes([LAYOUT_NUMBERS.index(layout)]), [layout in STATUS_AS_6021])
+
+
+def next_case(record):
+    """A record to advance by a second."""
+    return answered("N", record_bytes(record), outcome(records.next_second, record), record_numbers)
+
+
+def count_case(record):
+    """A record whose own count of seconds is wanted."""
+    return answered("C", record_bytes(record), outcome(records.count_of, record), count_numbers)
+
+
+def shift_case(local, daylight):
+    """Local seconds to put in UTC."""
+    given = bytes([daylight]) + local.to_bytes(4, "big")
+    return answered("Z", given, outcome(records.to_utc, LocalSeconds(local), daylight), lambda seconds: [seconds.count])
+
+
+def utc_case(record):
+    """A record to put in UTC seconds."""
+    return answered("U", record_bytes(record), outcome(records.utc_seconds, record), lambda seconds: [seconds.count])
+
+
+def step_case(letter, record):
+    """A clock to step: what it answers, and what it then shows."""
+    later, refusal = outcome(records.step_clock, record)
+    SEEN.note(letter, refusal)
+    left = record if later is None else later
+    return case(letter, record_bytes(record)), printed([refusal or 0] + record_numbers(left))
+
+
+# The parameter byte.
+
+def parameter_case(byte):
+    """A parameter byte to read."""
+    return told("P", bytes([byte]), parameter_numbers(parameter.read_parameter(byte)))
+
+
+def setting_case(setting):
+    """A parameter byte to write."""
+    return answered("Q", parameter_bytes(setting), outcome(parameter.write_parameter, setting), one)
+
+
+# Places and layouts.
+
+def scan_case(row, found):
+    """Bytes to take apart by a row."""
+    return answered("A", row_bytes(row) + found, outcome(places.scan, row, found), list)
+
+
+def render_case(row, digits, room):
+    """Digits to lay over the first bytes of a buffer by a row."""
+    buffer = bytearray([UNTOUCHED] * room)
+    places.render(row, digits, buffer)
+    return told("a", row_bytes(row) + bytes(digits) + bytes([room]), list(buffer) + [UNTOUCHED] * (ONE - room))
+
+
+def row_of_case(layout):
+    """A layout whose row is wanted."""
+    return told("O", bytes([LAYOUT_NUMBERS.index(layout)]), list(row_bytes(places.row_of(layout)))[1:])
+
+
+def layout_case(inner):
+    """Bytes without STX and ETX whose layout is wanted."""
+    return answered("L", inner, outcome(telegrams.layout_by_length, inner), lambda layout: [layout_number(layout)])
+
+
+def digits_in_case(layout, digits):
+    """Digits that make a record."""
+    return told("I", bytes([LAYOUT_NUMBERS.index(layout)]) + bytes(digits), record_numbers(places.record_of(layout, digits)))
+
+
+def digits_out_case(record):
+    """A record whose digits are wanted."""
+    return told("i", record_bytes(record), places.digits_of(record))
+
+
+# Telegrams.
+
 def read_case(telegram, control):
     """A telegram to read."""
-    letter = "R" if control else "r"
-    record, refusal = outcome(telegrams.read_telegram, telegram, control)
-    SEEN.note(letter, refusal)
-    return case(letter, telegram), printed(answer_numbers(record, refusal, record_numbers))
+    return answered("R" if control else "r", telegram, outcome(telegrams.read_telegram, telegram, control), record_numbers)
 
 
 def write_case(record, setting, room):
     """A record to write into a buffer of so many bytes."""
-    buffer = bytearray([UNTOUCHED] * room)
-    used, refusal = outcome(telegrams.write_telegram, record, buffer, setting)
-    SEEN.note("W", refusal)
-    whole = list(buffer) + [UNTOUCHED] * (ONE - room)
-    given = case("W", bytes([setting_number(setting), room]) + record_bytes(record))
-    return given, printed(answer_numbers(used, refusal, lambda used: [used]) + whole)
+    given = bytes([setting_number(setting), room]) + record_bytes(record)
+    return in_buffer("W", given, room, ONE, lambda buffer: telegrams.write_telegram(record, buffer, setting))
 
 
 def several_case(some, setting, room):
@@ -87,53 +246,16 @@ def several_case(some, setting, room):
     return given, printed([written.stand, written.used, written.refusal or 0] + whole)
 
 
-def next_case(record):
-    """A record to advance by a second."""
-    later, refusal = outcome(records.next_second, record)
-    SEEN.note("N", refusal)
-    return case("N", record_bytes(record)), printed(answer_numbers(later, refusal, record_numbers))
+# The line.
+
+def fresh_case():
+    """A fresh reader."""
+    return told("f", b"", state_numbers(line.fresh()))
 
 
-def step_case(record):
-    """A clock to step: what it answers, and what it then shows."""
-    later, refusal = outcome(records.step_clock, record)
-    SEEN.note("K", refusal)
-    left = record if later is None else later
-    return case("K", record_bytes(record)), printed([refusal or 0] + record_numbers(left))
-
-
-def utc_case(record):
-    """A record to put in UTC seconds."""
-    seconds, refusal = outcome(records.utc_seconds, record)
-    SEEN.note("U", refusal)
-    return case("U", record_bytes(record)), printed(answer_numbers(seconds, refusal, lambda seconds: [seconds.count]))
-
-
-def day_case(date):
-    """A date to number, with its weekday."""
-    number, refusal = outcome(days.day_number, date)
-    SEEN.note("D", refusal)
-    given = case("D", date.year.to_bytes(2, "big") + bytes([date.month, date.day]))
-    return given, printed(answer_numbers(number, refusal, lambda number: [number, days.weekday_of_number(number)]))
-
-
-def date_case(number):
-    """A day number to date."""
-    date, refusal = outcome(days.date_of, number)
-    SEEN.note("d", refusal)
-    return case("d", number.to_bytes(4, "big")), printed(answer_numbers(date, refusal, list))
-
-
-def parameter_case(byte):
-    """A parameter byte to read."""
-    return case("P", bytes([byte])), printed(parameter_numbers(parameter.read_parameter(byte)))
-
-
-def setting_case(setting):
-    """A parameter byte to write."""
-    byte, refusal = outcome(parameter.write_parameter, setting)
-    SEEN.note("Q", refusal)
-    return case("Q", parameter_bytes(setting)), printed(answer_numbers(byte, refusal, lambda byte: [byte]))
+def well_formed_case(state):
+    """A state that may be well formed."""
+    return told("w", state_bytes(state), [line.well_formed(state)])
 
 
 def feed_case(state, piece):
@@ -144,8 +266,22 @@ def feed_case(state, piece):
     if refusal is not None:
         return given, printed([0, 2, refusal] + state_numbers(state))
     if fed.event is not None and isinstance(fed.event.outcome, int):
-        SEEN.note("F", fed.event.outcome)
+        SEEN.more("F", fed.event.outcome)
     return given, printed([fed.taken] + event_numbers(fed.event) + state_numbers(fed.state))
+
+
+def use_up_case(state, piece):
+    """A piece to use up: the refusal of the state, the bytes taken, the events, the state that is left."""
+    passed, refusal = outcome(line.use_up, state, piece)
+    SEEN.note("V", refusal)
+    given = case("V", state_bytes(state) + piece)
+    if refusal is not None:
+        return given, printed([refusal, 0, 0] + state_numbers(state))
+    numbers = [0, passed.taken, len(passed.events)]
+    for event in passed.events:
+        SEEN.more("V", event.outcome if isinstance(event.outcome, int) else None)
+        numbers += event_numbers(event)
+    return given, printed(numbers + state_numbers(passed.state))
 
 
 def end_case(state):
@@ -155,18 +291,28 @@ def end_case(state):
     if refusal is not None:
         return case("E", state_bytes(state)), printed([2, refusal] + state_numbers(state))
     left, event = ended
-    SEEN.note("E", event.outcome if event else None)
+    SEEN.more("E", event.outcome if event else None)
     return case("E", state_bytes(state)), printed(event_numbers(event) + state_numbers(left))
+
+
+# The listing.
+
+def header_case(room):
+    """The header of the listing to write."""
+    return in_buffer("H", bytes([room]), room, ROW, listing.write_header)
 
 
 def row_case(start, answer, room):
     """A row of the listing to write: of a record, or of a refusal's number."""
-    buffer = bytearray([UNTOUCHED] * room)
-    used, refusal = outcome(listing.write_row, line.Event(start, 0, answer), buffer)
-    SEEN.note("G", refusal)
-    told = bytes([answer]) if isinstance(answer, int) else b"\0" + record_bytes(answer)
-    whole = list(buffer) + [UNTOUCHED] * (ROW - room)
-    return case("G", start.to_bytes(4, "big") + bytes([room]) + told), printed(answer_numbers(used, refusal, lambda used: [used]) + whole)
+    handed = bytes([answer]) if isinstance(answer, int) else b"\0" + record_bytes(answer)
+    event = line.Event(start, 0, answer)
+    given = start.to_bytes(4, "big") + bytes([room]) + handed
+    return in_buffer("G", given, room, ROW, lambda buffer: listing.write_row(event, buffer))
+
+
+def stray_case(stray, room):
+    """The last row of the listing to write."""
+    return in_buffer("X", stray.to_bytes(4, "big") + bytes([room]), room, ROW, lambda buffer: listing.write_stray(stray, buffer))
 
 
 # --- reading ---
@@ -246,7 +392,7 @@ def several_by_dice(dice):
         yield several_case(some, dice.choice(SETTINGS), dice.randrange(MANY + 1))
 
 
-# --- the next second ---
+# --- records, and the next second ---
 
 def month_ends():
     """The last second of every month of the calendar."""
@@ -257,37 +403,71 @@ def month_ends():
 
 
 def seconds_cases(dice):
-    """Advances, steps and UTC seconds: over every month end, and of any record."""
+    """Records judged, advanced, stepped and counted in seconds: over every month end, and of any kind."""
     for record in month_ends():
         yield next_case(record)
-        yield step_case(record)
+        yield step_case("K", record)
+        yield step_case("k", record)
     for record in [*one_of_each(), *bad_records()] + [making.any_record(dice) for _ in range(500)]:
+        yield rule_case(record)
         yield next_case(record)
-        yield step_case(record)
+        yield step_case("K", record)
+        yield step_case("k", record)
+        yield count_case(record)
         yield utc_case(record)
+    for layout in STATUS_AS_6021 + STATUS_AS_5500:
+        yield table_case(layout)
 
 
-def utc_edges():
-    """The first hours of the calendar and its last second, in each season and in UTC."""
+LAST_SECOND = days.SECONDS_PER_DAY * days.DAYS - 1
+
+
+def utc_edges(dice):
+    """The first hours of the calendar and its last second, in each season and in UTC; and local seconds from before its start in UTC
+    to behind its end."""
     for hour, minute, second in ((0, 0, 0), (0, 30, 0), (0, 59, 59), (1, 0, 0), (1, 59, 59), (2, 0, 0), (23, 59, 59)):
         for daylight, utc in ((False, False), (True, False), (False, True), (True, True)):
-            yield utc_case(Dated("6021", "radio", daylight, False, utc, 2, hour, minute, second, 1, 1, 1980))
-            yield utc_case(Dated("2000", "invalid", daylight, False, utc, 7, hour, minute, second, 31, 12, 2079))
+            for record in (Dated("6021", "radio", daylight, False, utc, 2, hour, minute, second, 1, 1, 1980),
+                           Dated("2000", "invalid", daylight, False, utc, 7, hour, minute, second, 31, 12, 2079)):
+                yield count_case(record)
+                yield utc_case(record)
+    edges = [edge + shift + step for edge in (0, LAST_SECOND) for shift in (0, 3600, 7200) for step in (-1, 0, 1)]
+    for local in [edge for edge in edges if 0 <= edge] + [4294967295] + [dice.randrange(2 ** 32) for _ in range(100)]:
+        for daylight in (False, True):
+            yield shift_case(local, daylight)
 
 
-# --- dates and day numbers ---
+# --- dates and times ---
 
 def calendar_cases():
-    """The first and the last day of every month, and what lies outside."""
-    for start in days.MONTH_STARTS:
-        for number in (start, start - 1 if start else days.DAYS - 1):
+    """The first and the last day of every month, each month, and what lies outside."""
+    for start, end in zip(days.MONTH_STARTS, days.MONTH_STARTS[1:] + [days.DAYS]):
+        first = days.date_of(start)
+        yield month_case(first.year, first.month)
+        for number in (start, end - 1):
+            date = days.date_of(number)
             yield date_case(number)
-            yield day_case(days.date_of(number))
+            yield day_case(date)
+            yield next_day_case(date)
     for number in (36524, 36525, 65535, 65536, 4294967295):
         yield date_case(number)
-    for year, month, day in ((1979, 12, 31), (2080, 1, 1), (0, 1, 1), (65535, 1, 1), (2000, 0, 1), (2000, 13, 1), (2000, 255, 1),
-                             (2000, 1, 0), (2000, 1, 32), (2000, 1, 255), (1999, 2, 29), (2000, 2, 30), (2000, 4, 31), (2001, 11, 31)):
-        yield day_case(days.Date(year, month, day))
+    for year, month in ((1979, 12), (2080, 1), (0, 1), (65535, 1), (2000, 0), (2000, 13), (2000, 255)):
+        yield month_case(year, month)
+        yield day_case(Date(year, month, 1))
+        yield next_day_case(Date(year, month, 1))
+    for year, month, day in ((2000, 1, 0), (2000, 1, 32), (2000, 1, 255), (1999, 2, 29), (2000, 2, 30), (2000, 4, 31), (2001, 11, 31),
+                             (1979, 12, 31), (2000, 13, 32)):
+        yield day_case(Date(year, month, day))
+        yield next_day_case(Date(year, month, day))
+
+
+def time_cases():
+    """The ends of every minute and hour, and what lies outside."""
+    for hour in (*range(25), 255):
+        for minute in (0, 1, 58, 59, 60, 255):
+            for second in (0, 58, 59, 60, 255):
+                yield second_case(Time(hour, minute, second))
+                yield next_time_case(Time(hour, minute, second))
 
 
 # --- the parameter byte ---
@@ -302,6 +482,53 @@ def parameter_cases():
                     {"stop_bits": 255}, {"baud": 0}, {"baud": 110}, {"baud": 151}, {"baud": 19201}, {"baud": 38400},
                     {"baud": 4294967295}, {"data_bits": 9, "baud": 38400}):
         yield setting_case(good._replace(**changed))
+
+
+# --- places and layouts ---
+
+def random_row(dice):
+    """A row of any places; a slot may be named more than once."""
+    kinds = dice.choices((FIXED, DECIMAL, CODE), k=dice.randrange(ONE))
+    return [Place(kind, dice.choice(making.LIKELY) if kind == FIXED else dice.randrange(SLOTS)) for kind in kinds]
+
+
+def fitting(dice, row):
+    """Bytes that a row takes, mostly: some are then changed, dropped or put in."""
+    found = bytearray(len(row))
+    places.render(row, [dice.randrange(10) for _ in range(SLOTS)], found)
+    return making.damaged(dice, found) if found else b""
+
+
+def random_digits(dice, layout):
+    """Digits that a layout allows in its code places, with more than four bits now and then."""
+    digits = [dice.randrange(10) for _ in range(SLOTS)]
+    if layout not in TIME_ONLY:
+        digits[places.SLOT["status"]] = dice.choice([nibble for nibble in range(16) if status_allowed(layout, nibble)])
+        digits[places.SLOT["weekday"]] = dice.choice([nibble for nibble in range(16) if weekday_allowed(layout, nibble)])
+    return [digit + dice.choice([0, 0, 16, 240]) for digit in digits]
+
+
+def layout_cases(dice):
+    """Rows of the layouts and any others; bytes of every length, and of the length that two layouts have in each order."""
+    for layout in LAYOUTS:
+        row = places.row_of(layout)
+        yield row_of_case(layout)
+        for _ in range(50):
+            yield scan_case(row, fitting(dice, row))
+            yield digits_in_case(layout, random_digits(dice, layout))
+        for room in range(ONE + 1):
+            yield render_case(row, [dice.randrange(256) for _ in range(SLOTS)], room)
+    for _ in range(500):
+        row = random_row(dice)
+        yield scan_case(row, fitting(dice, row))
+        yield render_case(row, [dice.randrange(256) for _ in range(SLOTS)], dice.randrange(ONE + 1))
+    for record in [*one_of_each()] + [making.good_record(dice) for _ in range(300)]:
+        yield digits_out_case(record)
+    for size in [*range(40), 255, 256, 300]:
+        for _ in range(5):
+            yield layout_case(bytes(dice.choice(making.LIKELY) for _ in range(size)))
+    for trailer in (b"\n\r", b"\r\n", b"\n\n", b"\r\r", b"\n ", b" \n"):
+        yield layout_case(b"123456" + trailer)
 
 
 # --- the line ---
@@ -323,44 +550,78 @@ def states(dice):
     yield line.state_of([2] + [0] * 22 + [1], 1, 1, 0, 0)
 
 
+def crowded_piece(dice):
+    """A piece with more events than are handed on at a time, or about as many: each STX behind another gives one, and so does an
+    ETX behind an STX."""
+    crowd = dice.choice([b"\x02", b"\x02\x03"]) * dice.choice([*range(30, 36), 64, 65, 66, dice.randrange(100, 1000)])
+    return making.random_line(dice) + crowd + making.random_line(dice)
+
+
 def line_cases(dice):
     """Every state with an empty piece, with each byte that means something, with telegrams, and at the line's end."""
+    yield fresh_case()
     for state in states(dice):
+        yield well_formed_case(state)
         yield end_case(state)
         for piece in (b"", b"\x02", b"\x03", b"x", b"xx\x02", b"1" * 30):
             yield feed_case(state, piece)
+            yield use_up_case(state, piece)
         for _ in range(6):
             yield feed_case(state, making.random_line(dice)[:200])
+        for _ in range(3):
+            yield use_up_case(state, making.random_line(dice))
+        yield use_up_case(state, crowded_piece(dice))
     for _ in range(500):
         yield feed_case(line.fresh(), making.some_telegram(dice, True))
+        yield use_up_case(line.fresh(), making.some_telegram(dice, True))
+    for piece in [b"x" * 8000, b"x" * 4000 + b"\x02" * 4000] + [crowded_piece(dice) for _ in range(50)]:
+        yield feed_case(line.fresh(), piece)
+        yield use_up_case(line.fresh(), piece)
 
 
 # --- the listing ---
 
+COUNTS = [0, 9, 10, 99, 100, 65535, 65536, 999999999, 1000000000, 4294967295]
+
+
 def row_cases(dice):
-    """Rows of every layout and status and of refusals, from every kind of start, into buffers from a byte short to more than enough."""
-    starts = [0, 9, 10, 99, 100, 65535, 65536, 999999999, 1000000000, 4294967295]
-    answers = [*one_of_each(), *range(1, 12)] + [making.good_record(dice) for _ in range(200)]
-    for answer in answers:
-        start = dice.choice(starts)
+    """Rows of every layout and status and of refusals, from every kind of start, into buffers from a byte short to more than enough.
+    A record that no telegram could carry is refused with its own number, whatever the buffer's length."""
+    for answer in [*one_of_each(), *range(1, 12)] + [making.good_record(dice) for _ in range(200)]:
+        start = dice.choice(COUNTS)
         size = len(listing.row(line.Event(start, 0, answer)))
         for room in (0, size - 1, size, ROW):
             yield row_case(start, answer, room)
+    for answer in [*bad_records()] + [making.any_record(dice) for _ in range(200)]:
+        for room in (0, dice.randrange(1, ROW), ROW):
+            yield row_case(dice.choice(COUNTS), answer, room)
 
 
-def all_cases():
+def other_row_cases(dice):
+    """The header and the last row."""
+    for room in range(ROW + 1):
+        yield header_case(room)
+    for stray in COUNTS + [dice.randrange(2 ** 32) for _ in range(50)]:
+        size = len(listing.stray_row(stray))
+        for room in (0, size - 1, size, size + 1, ROW):
+            yield stray_case(stray, room)
+
+
+def all_cases(seed=SEED):
     """Every case, in the order in which the program gets them."""
-    dice = random.Random(SEED)
+    dice = random.Random(seed)
+    yield from calendar_cases()
+    yield from time_cases()
+    yield from seconds_cases(dice)
+    yield from utc_edges(dice)
+    yield from parameter_cases()
+    yield from layout_cases(dice)
     yield from manual_cases()
     yield from damaged_cases(dice)
     yield from writes_around_the_edge()
     yield from writes_of_bad_records()
     yield from writes_by_dice(dice)
     yield from several_by_dice(dice)
-    yield from seconds_cases(dice)
-    yield from utc_edges()
-    yield from calendar_cases()
-    yield from parameter_cases()
     yield from line_cases(dice)
     yield from row_cases(dice)
-    SEEN.check()
+    yield from other_row_cases(dice)

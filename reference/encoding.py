@@ -1,22 +1,38 @@
 """How a case is handed to the program `test_cases`, and how the program prints an outcome.
 
-A case is a letter, a length and that many bytes. An outcome is a line of numbers, each with a space behind it: a refusal is its
-number, and anything else is 0 and its values. The heads of the program's files say the same.
+A case is a letter, a length of two bytes, the higher first, and that many bytes. An outcome is a line of numbers, each with a space
+behind it: a refusal is its number, and anything else is 0 and its values. The heads of the program's files say the same.
 """
 
 from layouts import TIME_ONLY
-from records import is_time_only
+from places import CODE, DECIMAL, FIXED
+from records import UtcSeconds, is_time_only
 
 RECEPTIONS = ["invalid", "crystal", "radio", "high"]
 LAYOUT_NUMBERS = ["6021", "2000", "5500", "5050", "6021t", "5500t", "5050t"]
 PARITY_NUMBERS = ["none", "even", "odd"]
+FIRST_PLACE = {FIXED: 0, DECIMAL: 128, CODE: 144}
 
 
 # --- what goes in ---
 
+LONGEST = 8192   # the program's buffer
+
+
 def case(letter, payload):
     """A case as the program reads it."""
-    return letter.encode("ascii") + bytes([len(payload)]) + payload
+    assert len(payload) <= LONGEST
+    return letter.encode("ascii") + len(payload).to_bytes(2, "big") + payload
+
+
+def date_bytes(date):
+    """Four bytes: the year has two."""
+    return date.year.to_bytes(2, "big") + bytes([date.month, date.day])
+
+
+def row_bytes(row):
+    """How many places a row has, and each as one number: a fixed character is itself, then come the decimal slots, then the codes."""
+    return bytes([len(row)] + [FIRST_PLACE[place.kind] + place.number for place in row])
 
 
 def record_bytes(record):
@@ -26,8 +42,7 @@ def record_bytes(record):
     if is_time_only(record):
         return bytes(head + [0] * 9 + time)
     flags = [RECEPTIONS.index(record.reception), record.daylight, record.utc, record.announced]
-    date = list(record.year.to_bytes(2, "big")) + [record.month, record.day]
-    return bytes(head + flags + [record.weekday] + date + time)
+    return bytes(head + flags + [record.weekday]) + date_bytes(record) + bytes(time)
 
 
 def setting_number(setting):
@@ -71,6 +86,11 @@ def record_numbers(record):
 def answer_numbers(value, refusal, numbers):
     """0 and the numbers of a value, or the refusal."""
     return [0] + numbers(value) if refusal is None else [refusal]
+
+
+def count_numbers(count):
+    """Seconds: 1 where they are UTC, and how many."""
+    return [isinstance(count, UtcSeconds), count.count]
 
 
 def event_numbers(event):

@@ -8,6 +8,7 @@ from refusals import ENDED_INSIDE, STATE, STX_INSIDE, TOO_LONG, Refused
 from telegrams import read_telegram
 
 PLACES = 24
+AT_A_TIME = 32   # the most events that are handed on at a time
 WRAP = 2 ** 32
 
 
@@ -32,6 +33,13 @@ class Fed(NamedTuple):
     state: State
     taken: int
     event: Optional[Event]
+
+
+class Passed(NamedTuple):
+    """The next state, how many bytes of the piece were taken, and the events they gave."""
+    state: State
+    taken: int
+    events: Tuple[Event, ...]
 
 
 def state_of(places, length, fed, stray, start):
@@ -132,7 +140,7 @@ def take(state, byte):
     return take_inside(state, byte, fed) if state.length else take_outside(state, byte, fed)
 
 
-# --- the two calls ---
+# --- the calls ---
 
 def feed(state, piece):
     """Takes bytes up to and with the first that gives an event, or all; 15 takes none."""
@@ -149,3 +157,17 @@ def end(state):
     check_state(state)
     event = event_of(state, state.length, ENDED_INSIDE) if state.length else None
     return with_held([], state.fed, state.stray), event
+
+
+def use_up(state, piece):
+    """Feeds the rest of a piece again behind each event, until nothing is left of it or so many events
+    have come as are handed on at a time; 15 takes none."""
+    check_state(state)
+    taken, events = 0, []
+    while len(events) < AT_A_TIME:
+        state, more, event = feed(state, piece[taken:])
+        taken += more
+        if event is None:
+            break
+        events.append(event)
+    return Passed(state, taken, tuple(events))

@@ -5,7 +5,7 @@ import sys
 sys.dont_write_bytecode = True  # leaves no files behind
 
 import line
-from records import is_time_only
+from records import check_record, is_time_only
 from refusals import BUFFER, Refused
 
 HEADER = b"start;kind;date;time;weekday;status\n"
@@ -39,18 +39,39 @@ def row(event):
     return (";".join(columns) + "\n").encode("ascii")
 
 
-def write_row(event, buffer):
-    """The row into a lent buffer, giving its length; 13 where the buffer is too short."""
-    text = row(event)
+def stray_row(stray):
+    """The last row."""
+    return f"stray {stray}\n".encode("ascii")
+
+
+# --- rows in a lent buffer ---
+
+def lay(text, buffer):
+    """A text at a buffer's beginning, giving its length; 13 where the buffer is too short."""
     if len(buffer) < len(text):
         raise Refused(BUFFER)
     buffer[:len(text)] = text
     return len(text)
 
 
-def stray_row(state):
+def write_header(buffer):
+    """The first row."""
+    return lay(HEADER, buffer)
+
+
+def write_row(event, buffer):
+    """The row of an event. A record that no telegram could carry has none: 5 to 8, then 13."""
+    if not isinstance(event.outcome, int):
+        check_record(event.outcome)
+    return lay(row(event), buffer)
+
+
+def write_stray(stray, buffer):
     """The last row."""
-    return f"stray {state.stray}\n".encode("ascii")
+    return lay(stray_row(stray), buffer)
+
+
+# --- a whole line ---
 
 
 def events_of(captured):
@@ -70,7 +91,7 @@ def events_of(captured):
 def listing(captured):
     """The whole listing of a captured line."""
     events, state = events_of(captured)
-    return HEADER + b"".join(row(event) for event in events) + stray_row(state)
+    return HEADER + b"".join(row(event) for event in events) + stray_row(state.stray)
 
 
 if __name__ == "__main__":

@@ -11,6 +11,7 @@ sys.dont_write_bytecode = True  # leaves no files behind
 import captures
 import cases
 import listing
+import measured
 import samples
 
 ROOT = pathlib.Path(__file__).resolve().parent.parent
@@ -19,11 +20,15 @@ ROOT = pathlib.Path(__file__).resolve().parent.parent
 def made():
     """Each file with its content."""
     every = list(cases.all_cases())
+    cases.SEEN.check()
     yield "crates/test_cases/stdin", b"".join(given for given, _ in every)
     yield "crates/test_cases/stdout", b"".join(expected for _, expected in every)
     lines = list(captures.all_lines())
-    yield "crates/test_lines/stdin", b"".join(given for given, _ in lines)
-    yield "crates/test_lines/stdout", b"".join(expected for _, expected in lines)
+    captures.check(lines)
+    yield "crates/test_lines/stdin", b"".join(captures.handed_over(pieces) for pieces in lines)
+    yield "crates/test_lines/stdout", b"".join(listing.listing(b"".join(pieces)) for pieces in lines)
+    yield "crates/measured/stdin", measured.GIVEN
+    yield "crates/measured/stdout", measured.printed(measured.GIVEN)
     yield "crates/dialspark/stdin", samples.PRINTED
     yield "crates/dialspark/stdout", listing.listing(samples.PRINTED)
     for name, captured in samples.SAMPLES.items():

@@ -146,24 +146,25 @@ def step_clock(record):
 # --- UTC seconds ---
 
 def count_of(record):
-    """86,400 times the day number plus the second of the day, on the record's own scale."""
-    return (days.SECONDS_PER_DAY * days.day_number(date_of(record))
-            + days.second_of_day(time_of(record)))
+    """86,400 times the day number plus the second of the day: UTC seconds of a record marked
+    UTC, else local seconds. 5 to 8, then 14."""
+    check_record(record)
+    if is_time_only(record):
+        raise Refused(NO_DATE)
+    count = (days.SECONDS_PER_DAY * days.day_number(date_of(record))
+             + days.second_of_day(time_of(record)))
+    return UtcSeconds(count) if record.utc else LocalSeconds(count)
 
 
 def to_utc(local, daylight):
-    """The season's shift, the only way from local to UTC; 12 before the calendar's start."""
+    """The season's shift, the only way from local to UTC; 12 where the calendar does not reach."""
     count = local.count - (DAYLIGHT_SHIFT if daylight else STANDARD_SHIFT)
-    if count < 0:
+    if not 0 <= count < days.SECONDS_PER_DAY * days.DAYS:
         raise Refused(CALENDAR)
     return UtcSeconds(count)
 
 
 def utc_seconds(record):
     """UTC seconds of a record; 5 to 8, then 12, then 14. A record marked UTC is not shifted."""
-    check_record(record)
-    if is_time_only(record):
-        raise Refused(NO_DATE)
-    if record.utc:
-        return UtcSeconds(count_of(record))
-    return to_utc(LocalSeconds(count_of(record)), record.daylight)
+    count = count_of(record)
+    return count if isinstance(count, UtcSeconds) else to_utc(count, record.daylight)

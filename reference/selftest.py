@@ -5,6 +5,7 @@
 Prints one line that begins with ok, or stops at the first failure and exits with 1.
 """
 
+import datetime
 import random
 import re
 import sys
@@ -18,6 +19,7 @@ import listing
 import making
 import manual_examples
 import parameter
+import places
 import records
 import samples
 import status
@@ -107,25 +109,46 @@ def examples_of_the_manuals():
 
 # --- the calendar ---
 
+DAY = datetime.timedelta(days=1)
+
+
+def of_library(date):
+    """A date of the standard library as one of ours."""
+    return Date(date.year, date.month, date.day)
+
+
 def calendar():
-    same("calendar", (len(days.MONTH_STARTS), days.MONTH_STARTS[:3], days.MONTH_STARTS[-1]),
-         (1200, [0, 31, 60], 36494))
-    same("calendar", days.DAYS, 36525)
-    date, weekday = Date(1980, 1, 1), 2
+    """Every day, held to the dates of the standard library."""
+    first, last = datetime.date(1980, 1, 1), datetime.date(2079, 12, 31)
+    same("calendar", (days.DAYS, (last - first).days + 1), (36525, 36525))
     for number in range(days.DAYS):
+        there = first + number * DAY
+        date = of_library(there)
         same("calendar", days.date_of(number), date)
         same("calendar", days.day_number(date), number)
-        same("calendar", days.weekday_of_number(number), weekday)
-        if number < days.DAYS - 1:
-            date, weekday = days.next_day(date), weekday % 7 + 1
-    same("calendar", date, Date(2079, 12, 31))
-    same("calendar", outcome(days.next_day, date), (None, 12))
+        same("calendar", days.weekday_of_number(number), there.isoweekday())
+        same("calendar", days.weekday_of(date), there.isoweekday())
+        if there < last:
+            same("calendar", days.next_day(date), of_library(there + DAY))
+    same("calendar", outcome(days.next_day, Date(2079, 12, 31)), (None, 12))
     same("calendar", outcome(days.date_of, 36525), (None, 12))
+
+
+def months():
+    """Every month, held to the standard library, and to what the document says of the table."""
+    firsts = [datetime.date(year, month, 1) for year in range(1980, 2080) for month in range(1, 13)]
+    starts = [(first - firsts[0]).days for first in firsts]
+    same("months", days.MONTH_STARTS, starts)
+    same("months", (len(starts), starts[:3], starts[-1]), (1200, [0, 31, 60], 36494))
+    for first, end in zip(firsts, [*firsts[1:], datetime.date(2080, 1, 1)]):
+        same("months", days.days_in_month(first.year, first.month), (end - first).days)
     for year, month, day, number in ((1979, 1, 1, 6), (2080, 1, 1, 6), (2000, 0, 1, 6),
                                      (2000, 13, 1, 6), (2000, 1, 0, 6), (2000, 1, 32, 6),
                                      (1999, 2, 29, 7), (2000, 2, 30, 7), (2000, 4, 31, 7)):
-        same("calendar", outcome(days.day_number, Date(year, month, day)), (None, number))
-    same("calendar", outcome(days.days_in_month, 2000, 13), (None, 6))
+        same("months", outcome(days.day_number, Date(year, month, day)), (None, number))
+        same("months", outcome(days.next_day, Date(year, month, day)), (None, number))
+    for year, month in ((2000, 13), (2000, 0), (1979, 12), (2080, 1)):
+        same("months", outcome(days.days_in_month, year, month), (None, 6))
 
 
 def time_of_day():
@@ -255,6 +278,15 @@ def utc_counts():
         utc, number = outcome(records.utc_seconds, record)
         same("utc", (None, number) if utc is None else (utc.count,), wanted)
     same("utc", outcome(records.step_clock, last), (None, 12))
+    for local, daylight, wanted in (
+            (0, False, None), (3599, False, None), (3600, False, 0), (7199, True, None), (7200, True, 0),
+            (3155763599, False, 3155759999), (3155763600, False, None),
+            (3155767199, True, 3155759999), (3155767200, True, None), (2 ** 32 - 1, True, None)):
+        utc, number = outcome(records.to_utc, records.LocalSeconds(local), daylight)
+        same("utc", (utc, number), (None, 12) if wanted is None else (records.UtcSeconds(wanted), None))
+    same("utc", records.count_of(last), records.UtcSeconds(3155759999))
+    same("utc", records.count_of(last._replace(utc=False)), records.LocalSeconds(3155759999))
+    same("utc", outcome(records.count_of, TimeOnly("5050t", 23, 59, 59)), (None, 14))
 
 
 # --- damaged telegrams ---
@@ -346,6 +378,19 @@ def lines(dice, rounds):
         same("line", line.end(last), (last, None))
 
 
+def used_up(dice, rounds):
+    """What a piece gives at one call is what its bytes give one by one, up to the thirty-second event."""
+    for _ in range(rounds):
+        piece = making.random_line(dice) + STX * dice.choice([0, 30, 31, 32, 33, 100]) + making.random_line(dice)
+        passed = line.use_up(line.fresh(), piece)
+        state, events, taken = line.fresh(), [], 0
+        while taken < len(piece) and len(events) < 32:
+            state, more, event = line.feed(state, piece[taken:taken + 1])
+            taken += more
+            events += [event] if event else []
+        same("used up", passed, line.Passed(state, taken, tuple(events)))
+
+
 def wrapping_counts(dice, rounds):
     """The same line behind counts that are about to wrap gives the same events, moved."""
     for _ in range(rounds):
@@ -400,15 +445,37 @@ def parameter_bytes():
              (None, 16))
 
 
-def rows(dice, rounds):
-    """A row goes into a buffer that has room for it, and into no shorter one."""
+# --- places ---
+
+def digits_and_places(dice, rounds):
+    """A good record's digits make its telegram, and are found in it; a layout is found from the length."""
     for _ in range(rounds):
-        result = dice.choice([making.good_record(dice), dice.randrange(1, 12)])
+        record = making.good_record(dice)
+        telegram, row, digits = making.telegram_of(record, False), places.row_of(record.layout), places.digits_of(record)
+        buffer = bytearray(len(telegram))
+        places.render(row, digits, buffer)
+        same("places", buffer, telegram)
+        same("places", places.record_of(record.layout, digits), record)
+        same("places", telegrams.layout_by_length(telegram), record.layout)
+        damaged = making.damaged(dice, telegram)
+        if len(damaged) == len(telegram) and len(damaged) != 8:
+            number = outcome(places.scan, row, damaged)[1]
+            got = read(damaged, control=False)
+            same("places", number == got if number or got in (3, 4) else True, True)
+
+
+# --- rows ---
+
+def rows(dice, rounds):
+    """A row goes into a buffer that has room for it, and into no shorter one. A record that no telegram carries has none."""
+    for _ in range(rounds):
+        result = dice.choice([making.any_record(dice), dice.randrange(1, 12)])
         event = line.Event(dice.randrange(WRAP), 18, result)
         text = listing.row(event)
         buffer = bytearray(b"?" * dice.choice([len(text) - 1, len(text), len(text) + 3]))
         used, number = outcome(listing.write_row, event, buffer)
-        same("rows", number, 13 if len(buffer) < len(text) else None)
+        bad = None if isinstance(result, int) else outcome(records.check_record, result)[1]
+        same("rows", number, bad or (13 if len(buffer) < len(text) else None))
         same("rows", bytes(buffer), (text if used else b"").ljust(len(buffer), b"?"))
 
 
@@ -418,6 +485,7 @@ def main():
     boundary_table()
     examples_of_the_manuals()
     calendar()
+    months()
     time_of_day()
     read_back_what_was_written(dice, 5000)
     no_setting_named(dice, 3000)
@@ -428,10 +496,12 @@ def main():
     what_reads_is_what_the_writer_makes(dice, 20000)
     status_and_weekday_characters()
     lines(dice, 1500)
+    used_up(dice, 300)
     wrapping_counts(dice, 300)
     states_not_well_formed()
     parameter_bytes()
-    rows(dice, 500)
+    digits_and_places(dice, 1000)
+    rows(dice, 1000)
     print("ok", sum(counts.values()), "checks:",
           ", ".join(f"{group} {count}" for group, count in counts.items()))
 

@@ -35,6 +35,13 @@ def layout_of(telegram, control_characters):
     return None
 
 
+def layout_by_length(inner):
+    """The layout that bytes between STX and ETX are judged by; 1 where none has their length. Where two
+    have it and the order of LF and CR is that of neither, the last, which then refuses them as 3."""
+    check(((LENGTH, length_not_in_table),), inner, False)
+    return layout_of(inner, False) or layouts_of_length(len(inner), False)[-1]
+
+
 def character_at(layout, inner, wanted):
     """The status or the weekday character."""
     return inner[LAYOUTS[layout].index(wanted)]
