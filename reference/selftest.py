@@ -459,9 +459,9 @@ def digits_and_places(dice, rounds):
         same("places", telegrams.layout_by_length(telegram), record.layout)
         damaged = making.damaged(dice, telegram)
         if len(damaged) == len(telegram) and len(damaged) != 8:
-            number = outcome(places.scan, row, damaged)[1]
-            got = read(damaged, control=False)
-            same("places", number == got if number or got in (3, 4) else True, True)
+            number, got = outcome(places.scan, row, damaged)[1], read(damaged, control=False)
+            if number is not None or got in (3, 4):
+                same("places", number, got)
 
 
 # --- rows ---

@@ -1,6 +1,7 @@
 // How the bytes of a case are read. A byte that is not there is 0, and a number that names nothing names the first.
 use calendar::date::Date;
 use calendar::time::Time;
+use layouts::Layout;
 use line::Reader;
 use record::DatedLayout;
 use record::Reception;
@@ -33,7 +34,7 @@ fn joined_32(high: u16, low: u16) -> u32 {
 }
 
 // Two bytes, the high one first.
-fn number_16(bytes: &[u8]) -> u16 {
+pub(crate) fn number_16(bytes: &[u8]) -> u16 {
     joined(byte(bytes, 0), byte(bytes, 1))
 }
 
@@ -51,7 +52,16 @@ pub(crate) fn behind<'a>(bytes: &'a [u8], count: usize) -> &'a [u8] {
     &bytes[count..]
 }
 
-fn dated_layout(number: u8) -> DatedLayout {
+// The first so many bytes, or all.
+pub(crate) fn first<'a>(bytes: &'a [u8], count: usize) -> &'a [u8] {
+    let length = bytes.len();
+    if length < count {
+        return &bytes[0..length];
+    }
+    &bytes[0..count]
+}
+
+pub(crate) fn dated_layout(number: u8) -> DatedLayout {
     match number {
         1 => DatedLayout::L2000,
         2 => DatedLayout::L5500,
@@ -68,6 +78,14 @@ fn time_layout(number: u8) -> TimeLayout {
     }
 }
 
+// 0 to 3 dated, 4 to 6 time-only.
+pub(crate) fn layout(number: u8) -> Layout {
+    if 4 <= number {
+        return Layout::TimeOnly(time_layout(number));
+    }
+    Layout::Dated(dated_layout(number))
+}
+
 fn reception(number: u8) -> Reception {
     match number {
         1 => Reception::Crystal,
@@ -77,7 +95,7 @@ fn reception(number: u8) -> Reception {
     }
 }
 
-fn time(bytes: &[u8]) -> Time {
+pub(crate) fn time(bytes: &[u8]) -> Time {
     Time {
         hour: byte(bytes, 0),
         minute: byte(bytes, 1),
@@ -103,7 +121,7 @@ fn status(bytes: &[u8]) -> Status {
     }
 }
 
-// Thirteen bytes: layout (0 to 3 dated, 4 to 6 time-only), status, weekday, date, time.
+// Thirteen bytes: layout, status, weekday, date, time.
 pub(crate) fn rec(bytes: &[u8]) -> Record {
     let layout = byte(bytes, 0);
     let time = time(behind(bytes, 10));
@@ -138,6 +156,13 @@ fn held(bytes: &[u8]) -> [u8; 24] {
         at += 1;
     }
     held
+}
+
+// Sixteen bytes.
+#[rattlefmt::skip]
+pub(crate) fn digits(bytes: &[u8]) -> [u8; 16] {
+    let all = held(bytes);
+    [all[0], all[1], all[2], all[3], all[4], all[5], all[6], all[7], all[8], all[9], all[10], all[11], all[12], all[13], all[14], all[15]]
 }
 
 pub(crate) fn wide(n: u8) -> usize {

@@ -1,19 +1,39 @@
 // Runs cases from standard input against the entry points, and prints each outcome as a line of numbers.
-// A case is one letter, a length, and that many bytes; `inputs` says how they are read and `outputs` how outcomes are printed.
+// A case is one letter, a length of two bytes, the high one first, and that many bytes; `inputs` says how they are read and
+// `outputs` how outcomes are printed.
+//   D        the day number of a date, and its weekday
+//   d        the date of a day number
+//   n        the next day of a date
+//   M        the days of a month
+//   T        the second of the day of a time
+//   t        the next second of a time
+//   J        the refusal of a record
+//   B        whether a layout has the status table of the 6021
+//   N        the next second of a record
+//   U        the UTC seconds of a record
+//   K or k   steps a clock, in place or by value: its record
+//   P        reads a parameter byte
+//   Q        writes a parameter byte: the setting
+//   A        takes bytes apart by a row: the row, the bytes
+//   a        lays digits down by a row: the row, the digits, the buffer's length
+//   O        the row of a layout
+//   L        the layout of bytes without STX and ETX
+//   I        the record of digits: the layout, the digits
+//   i        the digits of a record
 //   R or r   reads the bytes as one telegram, with or without control characters
 //   W        writes one telegram: a choice, the buffer's length, a record
 //   S        writes several one behind another: a choice, the buffer's length, records
-//   N        the next second of a record
-//   U        the UTC seconds of a record
-//   D        the day number of a date
-//   d        the date of a day number
-//   K        steps a clock in place: its record
-//   P        reads a parameter byte
-//   Q        writes a parameter byte: the setting
+//   f        a fresh reader
+//   w        whether a reader's state is well formed
 //   F        feeds a reader: its state, a piece
+//   V        uses a piece up: the reader's state, the piece
 //   E        ends a line: the reader's state
+//   H        writes the header of the listing: the buffer's length
 //   G        writes a row of the listing: its start, the buffer's length, an outcome
+//   X        writes the last row of the listing: the stray bytes, the buffer's length
 mod boards;
+mod dates;
+mod digits;
 mod inputs;
 mod lines;
 mod outputs;
@@ -25,20 +45,38 @@ use libc::STDIN_FILENO;
 
 fn run(letter: u8, bytes: &[u8]) {
     match letter {
+        b'D' => dates::day_number(bytes),
+        b'd' => dates::date(bytes),
+        b'n' => dates::next_day(bytes),
+        b'M' => dates::days_in_month(bytes),
+        b'T' => dates::second_of_day(bytes),
+        b't' => dates::next_second(bytes),
+        b'J' => records::refusal(bytes),
+        b'B' => records::table_of_6021(bytes),
+        b'N' => records::next_second(bytes),
+        b'U' => records::utc_seconds(bytes),
+        b'K' => records::step_in_place(bytes),
+        b'k' => records::step(bytes),
+        b'P' => boards::reads(bytes),
+        b'Q' => boards::writes(bytes),
+        b'A' => digits::scans(bytes),
+        b'a' => digits::renders(bytes),
+        b'O' => digits::row(bytes),
+        b'L' => digits::layout(bytes),
+        b'I' => digits::record_in(bytes),
+        b'i' => digits::digits_out(bytes),
         b'R' => telegrams::reads(bytes, true),
         b'r' => telegrams::reads(bytes, false),
         b'W' => telegrams::writes(bytes),
         b'S' => telegrams::writes_several(bytes),
-        b'N' => records::next_second(bytes),
-        b'U' => records::utc_seconds(bytes),
-        b'D' => records::day_number(bytes),
-        b'd' => records::date(bytes),
-        b'K' => records::step(bytes),
-        b'P' => boards::reads(bytes),
-        b'Q' => boards::writes(bytes),
+        b'f' => lines::fresh(),
+        b'w' => lines::is_well_formed(bytes),
         b'F' => lines::feeds(bytes),
+        b'V' => lines::uses_up(bytes),
         b'E' => lines::ends(bytes),
-        b'G' => rows::writes(bytes),
+        b'H' => rows::header(bytes),
+        b'G' => rows::row(bytes),
+        b'X' => rows::stray_line(bytes),
         _ => {}
     }
     outputs::end_line();
@@ -61,12 +99,12 @@ fn run_first(letter: u8, bytes: &[u8], length: usize) {
 
 // Reads one case and runs it; answers whether there was one.
 fn next_case() -> bool {
-    let mut head = [0u8; 2];
-    if !read_bytes(&mut head, 2) {
+    let mut head = [0u8; 3];
+    if !read_bytes(&mut head, 3) {
         return false;
     }
-    let length = inputs::wide(head[1]);
-    let mut bytes = [0u8; 256];
+    let length = inputs::number_16(inputs::behind(&head, 1)) as usize;
+    let mut bytes = [0u8; 8192];
     if !read_bytes(&mut bytes, length) {
         return false;
     }

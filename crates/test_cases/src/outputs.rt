@@ -1,9 +1,11 @@
 // How an outcome is printed: numbers, each with a space behind it. A refusal is its number, and anything else is 0 and its values.
 use calendar::date::Date;
 use calendar::time::Time;
+use layouts::Layout;
 use libc::STDOUT_FILENO;
 use line::Heard;
 use line::Reader;
+use line::pieces::Slot;
 use record::DatedLayout;
 use record::Reception;
 use record::Record;
@@ -45,6 +47,13 @@ fn time_layout_number(layout: TimeLayout) -> u64 {
     }
 }
 
+pub(crate) fn print_layout(layout: Layout) {
+    match layout {
+        Layout::Dated(dated) => print(layout_number(dated)),
+        Layout::TimeOnly(brief) => print(time_layout_number(brief)),
+    }
+}
+
 fn reception_number(reception: Reception) -> u64 {
     match reception {
         Reception::Invalid => 0,
@@ -72,7 +81,7 @@ pub(crate) fn print_date(date: Date) {
     print(date.day as u64);
 }
 
-fn print_time(time: Time) {
+pub(crate) fn print_time(time: Time) {
     print(time.hour as u64);
     print(time.minute as u64);
     print(time.second as u64);
@@ -141,4 +150,18 @@ pub(crate) fn print_reader(reader: Reader) {
     print(reader.fed as u64);
     print(reader.stray as u64);
     print(reader.start as u64);
+}
+
+fn print_slot(slot: Slot) {
+    let heard = slot.heard;
+    print_heard(heard);
+}
+
+// The first so many of the events that were handed on.
+pub(crate) fn print_slots(slots: [Slot; 32], count: usize) {
+    let mut at: usize = 0;
+    while at < 32 && at < count {
+        print_slot(slots[at]);
+        at += 1;
+    }
 }

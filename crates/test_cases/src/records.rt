@@ -1,11 +1,19 @@
-// Cases of records, dates and the station clock.
+// Cases of records and the station clock.
 use super::inputs;
 use super::outputs;
-use calendar::date::DateAnswer;
-use calendar::date::DayAnswer;
 use clock::Clock;
 use clock::StepAnswer;
-use record::season::UtcAnswer;
+use clock::Stepped;
+use record::utc::UtcAnswer;
+
+pub(crate) fn refusal(bytes: &[u8]) {
+    outputs::print(record::rule::refusal(inputs::rec(bytes)) as u64);
+}
+
+pub(crate) fn table_of_6021(bytes: &[u8]) {
+    let layout = inputs::dated_layout(inputs::byte(bytes, 0));
+    outputs::print_flag(record::rule::table_of_6021(layout));
+}
 
 pub(crate) fn next_second(bytes: &[u8]) {
     outputs::print_answer(record::next::next_second(inputs::rec(bytes)));
@@ -21,32 +29,14 @@ pub(crate) fn utc_seconds(bytes: &[u8]) {
     }
 }
 
-pub(crate) fn day_number(bytes: &[u8]) {
-    match calendar::date::day_number(inputs::date(bytes)) {
-        DayAnswer::Day(day) => {
-            outputs::print(0);
-            outputs::print(day as u64);
-            outputs::print(calendar::date::weekday(day) as u64);
-        }
-        DayAnswer::Refused(number) => outputs::print(number as u64),
-    }
-}
-
-pub(crate) fn date(bytes: &[u8]) {
-    match calendar::date::date_of(inputs::number_32(bytes)) {
-        DateAnswer::Found(date) => {
-            outputs::print(0);
-            outputs::print_date(date);
-        }
-        DateAnswer::Refused(number) => outputs::print(number as u64),
+fn clock(bytes: &[u8]) -> Clock {
+    Clock {
+        rec: inputs::rec(bytes),
     }
 }
 
 // What the step answers, and the clock that is left.
-pub(crate) fn step(bytes: &[u8]) {
-    let stepped = clock::in_place(Clock {
-        rec: inputs::rec(bytes),
-    });
+fn print_stepped(stepped: Stepped) {
     let answer = stepped.answer;
     match answer {
         StepAnswer::Stepped => outputs::print(0),
@@ -55,4 +45,12 @@ pub(crate) fn step(bytes: &[u8]) {
     let left = stepped.clock;
     let rec = left.rec;
     outputs::print_record(rec);
+}
+
+pub(crate) fn step(bytes: &[u8]) {
+    print_stepped(clock(bytes).step());
+}
+
+pub(crate) fn step_in_place(bytes: &[u8]) {
+    print_stepped(clock::in_place(clock(bytes)));
 }
