@@ -6,6 +6,7 @@ from refusals import outcome
 
 TELEGRAM = b"\x02E3123456170496\n\r\x03"
 SIZE = len(TELEGRAM)
+ROOM = 65535   # the program reads no more behind the letter
 
 # A telegram that reads well, one that does not, and so on.
 GIVEN = b"r" + (TELEGRAM + TELEGRAM.replace(b"E3", b"E4")) * 5
