@@ -10,6 +10,8 @@
 //   J        the refusal of a record
 //   B        whether a layout has the status table of the 6021
 //   N        the next second of a record
+//   C        the seconds that a record counts, local or UTC
+//   Z        local seconds in UTC: whether it is daylight time, the seconds
 //   U        the UTC seconds of a record
 //   K or k   steps a clock, in place or by value: its record
 //   P        reads a parameter byte
@@ -54,6 +56,8 @@ fn run(letter: u8, bytes: &[u8]) {
         b'J' => records::refusal(bytes),
         b'B' => records::table_of_6021(bytes),
         b'N' => records::next_second(bytes),
+        b'C' => records::count(bytes),
+        b'Z' => records::to_utc(bytes),
         b'U' => records::utc_seconds(bytes),
         b'K' => records::step_in_place(bytes),
         b'k' => records::step(bytes),

@@ -4,7 +4,10 @@ use super::outputs;
 use clock::Clock;
 use clock::StepAnswer;
 use clock::Stepped;
-use record::utc::UtcAnswer;
+use record::season::Count;
+use record::season::LocalSeconds;
+use record::season::UtcAnswer;
+use record::utc::CountAnswer;
 
 pub(crate) fn refusal(bytes: &[u8]) {
     outputs::print(record::rule::refusal(inputs::rec(bytes)) as u64);
@@ -19,14 +22,48 @@ pub(crate) fn next_second(bytes: &[u8]) {
     outputs::print_answer(record::next::next_second(inputs::rec(bytes)));
 }
 
-pub(crate) fn utc_seconds(bytes: &[u8]) {
-    match record::utc::utc_seconds(inputs::rec(bytes)) {
+// Whether a count is UTC, and the count.
+fn print_count(count: Count) {
+    match count {
+        Count::Local(seconds) => {
+            outputs::print_flag(false);
+            outputs::print(seconds.0 as u64);
+        }
+        Count::Utc(seconds) => {
+            outputs::print_flag(true);
+            outputs::print(seconds.0 as u64);
+        }
+    }
+}
+
+pub(crate) fn count(bytes: &[u8]) {
+    match record::utc::count(inputs::rec(bytes)) {
+        CountAnswer::Counted(count) => {
+            outputs::print(0);
+            print_count(count);
+        }
+        CountAnswer::Refused(number) => outputs::print(number as u64),
+    }
+}
+
+fn print_utc(answer: UtcAnswer) {
+    match answer {
         UtcAnswer::Utc(seconds) => {
             outputs::print(0);
             outputs::print(seconds.0 as u64);
         }
         UtcAnswer::Refused(number) => outputs::print(number as u64),
     }
+}
+
+// Whether it is daylight time, and local seconds.
+pub(crate) fn to_utc(bytes: &[u8]) {
+    let local = LocalSeconds(inputs::number_32(inputs::behind(bytes, 1)));
+    print_utc(record::season::to_utc(local, inputs::flag(bytes, 0)));
+}
+
+pub(crate) fn utc_seconds(bytes: &[u8]) {
+    print_utc(record::utc::utc_seconds(inputs::rec(bytes)));
 }
 
 fn clock(bytes: &[u8]) -> Clock {
