@@ -23,18 +23,18 @@ class Place(NamedTuple):
 
 # --- any row ---
 
-def places_hold(kind, holds):
+def no_such_byte(kind, belongs):
     """The condition that some place of a kind has a byte that does not belong there. A row and its bytes count up to the end of
     the shorter one."""
     def wrong(row, found):
-        return any(place.kind == kind and not holds(place, byte) for place, byte in zip(row, found))
+        return any(place.kind == kind and not belongs(place, byte) for place, byte in zip(row, found))
     return wrong
 
 
 CONDITIONS = (
-    (FIXED_PLACE, places_hold(FIXED, lambda place, byte: byte == place.number)),
-    (DECIMAL_PLACE, places_hold(DECIMAL, lambda place, byte: byte in b"0123456789")),
-    (STATUS_OR_WEEKDAY, places_hold(CODE, lambda place, byte: nibble_of(byte) is not None)),
+    (FIXED_PLACE, no_such_byte(FIXED, lambda place, byte: byte == place.number)),
+    (DECIMAL_PLACE, no_such_byte(DECIMAL, lambda place, byte: byte in b"0123456789")),
+    (STATUS_OR_WEEKDAY, no_such_byte(CODE, lambda place, byte: nibble_of(byte) is not None)),
 )
 
 

@@ -12,7 +12,7 @@ use telegram::write::Choice;
 use telegram::write::Setting;
 
 // What a buffer holds before it is lent.
-pub const UNTOUCHED: u8 = 170;
+pub(crate) const UNTOUCHED: u8 = 170;
 
 pub(crate) fn byte(bytes: &[u8], at: usize) -> u8 {
     if at < bytes.len() {
