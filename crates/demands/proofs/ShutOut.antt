@@ -21,7 +21,7 @@ use Rattle.line.specs.declared.Fed.{Fed}
 use Rattle.line.specs.declared.Heard.{Heard}
 use Rattle.line.specs.declared.Heard.the-variants.{Nothing, Event, Refused}
 use Rattle.line.specs.Line.{readerOf, freshReader, wellFormed, feedReader}
-use Rattle.line.specs.Cuts.{heardThen, Served, AllUsedUp}
+use Rattle.line.specs.Cuts.{heardThen, feeding, Served, AllUsedUp}
 use Rattle.line.specs.SentLine.{Sent, bytesSent, eventsSent}
 use Rattle.demands.specs.Demand2.{WritesByTheTables, ReadsByTheTables}
 use Rattle.demands.specs.Demand3.{HandsBackThatList}
@@ -66,12 +66,12 @@ events-so : eventsSent 0 sent ≡ Event (answer.Good early) 0 10 ∷ []
 events-so = λ i. Event (answer.Good early) 0 (length (written-so i)) ∷ []
 
 module _ (feed : Reader → List ℕ → Fed) (fed : Fed) (is : feed freshReader its-bytes ≡ fed) (all : fed .taken ≡ 10) (demand : HandsBackThatList feed) where
-  used : AllUsedUp feed freshReader in-one
+  used : AllUsedUp (feeding feed) freshReader in-one
   used = (ap (λ f. drop (f .taken) its-bytes) is ∙ ap (λ n. drop n its-bytes) all, tt)
 
-  hears : heardThen (fed .heard) [] ++ [] ≡ Event (answer.Good early) 0 10 ∷ []
+  hears : (heardThen (fed .heard) [] ++ []) ++ [] ≡ Event (answer.Good early) 0 10 ∷ []
   hears =
-      ap (λ f. heardThen (f .heard) [] ++ []) (sym is)
+      ap (λ f. (heardThen (f .heard) [] ++ []) ++ []) (sym is)
       ∙ demand sent [] (is-good, tt) (refl, refl) in-one line-so used .0
       ∙ events-so
 

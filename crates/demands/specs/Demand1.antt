@@ -5,7 +5,7 @@
 use mathlib.Core.Bool.{Bool, true, false, not}
 use mathlib.Core.List.{List, [], _∷_, _++_}
 use mathlib.Core.Path.{_≡_}
-use Prim.Native.Nat.{ℕ, _-_, _<_}
+use Prim.Native.Nat.{ℕ, _-_}
 use lib.Dec.{leb}
 use lib.ListN.{length}
 use Rattle.refusals.specs.Refusals.{refused}
@@ -26,7 +26,7 @@ use Rattle.telegram.specs.Reading.{readOf}
 use Rattle.telegram.specs.Writing.{written, sizeOf, laidIn, severalAfter, bufferAfter}
 use Rattle.line.specs.declared.Reader.{Reader}
 use Rattle.line.specs.declared.Heard.the-variants.{Refused}
-use Rattle.line.specs.Line.{wellFormed, feedReader, endReader}
+use Rattle.line.specs.Line.{wellFormed, AsDeclared, feedReader, endReader}
 use Rattle.line.specs.Pieces.{passing}
 use Rattle.clock.specs.declared.Clock.{Clock}
 use Rattle.clock.specs.Stepping.{stepOf}
@@ -88,10 +88,6 @@ TheStepRefuses =
     (clock : Clock)
     → (stepAnswer (stepOf clock .answer) refusedBy stepRules (clock .rec))
     × (stepAnswer (stepOf clock .answer) doneOr 5 ∷ 6 ∷ 7 ∷ 8 ∷ 12 ∷ 14 ∷ [])
-
--- what a reader's declaration says already: an array of 24 places, and counts of 32 bits
-abbrev pub AsDeclared : Reader → Type 0
-AsDeclared reader = (length (reader .held) ≡ 24) × (reader .fed < 4294967296) × (reader .stray < 4294967296)
 
 -- what a line gives: 1 to 10 but for 2, as STX and ETX always stand there
 abbrev pub onTheLine : List ℕ

@@ -10,11 +10,13 @@ use lib.ListN.{length, length-append}
 use borrow.Author.Tests.{leb-true}
 use Rattle.refusals.specs.Refusals.{refused}
 use Rattle.telegram.specs.Reading.{readOf}
-use Rattle.line.specs.Line.{Line, nothing, event, heldAfter, toldBy, strayBy, step, freshLine, readerOf, ended, toldByEnd}
-use Rattle.line.specs.Cuts.{lineAfter}
-use Rattle.line.specs.Account.{eventSize, lengthsOf, straysOf}
-use Rattle.line.proofs.StaysGood.{Good, good-step}
-use Rattle.line.proofs.CutLaws.{good-fresh}
+use Rattle.line.specs.declared.Heard.{Heard}
+use Rattle.line.specs.Line.{Line, Told, nothing, event, heldAfter, toldBy, strayBy, step, startOf, freshLine, freshReader, readerOf, toldByEnd, heardFor, feedReader, endReader}
+use Rattle.line.specs.Cuts.{tells, eventsOf, lineAfter, heardThen, feeding, bytesServed}
+use Rattle.line.specs.Account.{eventSize, lengthsOf, straysOf, sizesOf}
+use Rattle.line.specs.Sentences.{TheAccountHolds, TheAccountHoldsAfterTheEnd}
+use Rattle.line.proofs.StaysGood.{Good, good-step, end-good}
+use Rattle.line.proofs.CutLaws.{good-fresh, good-after, feeding-splits, cut-anywhere}
 
 -- one byte
 begins : (stx : Bool) → 0 + 1 ≡ 0 + cond stx 0 1 + length (cond {A = List ℕ} stx (2 ∷ []) [])
@@ -51,36 +53,54 @@ pub stray-counts : (line : Line) (bytes : List ℕ) → lineAfter line bytes .st
 stray-counts line [] = omega arith
 stray-counts line (byte ∷ bytes) = omega (arith, stray-counts (step line byte) bytes)
 
+-- what was heard has those lengths
+size-by : (told : Told) (start : ℕ) (later : List Heard) → sizesOf (tells told start later) ≡ eventSize told + sizesOf later
+size-by nothing start later = omega arith
+size-by (event outcome size) start later = refl
+
+pub heard-sizes : (line : Line) (bytes : List ℕ) → sizesOf (eventsOf line bytes) ≡ lengthsOf line bytes
+heard-sizes line [] = refl
+heard-sizes line (byte ∷ bytes) =
+    size-by (toldBy (line .held) byte) (startOf line) (eventsOf (step line byte) bytes) ∙ ap (λ n. eventSize (toldBy (line .held) byte) + n) (heard-sizes (step line byte) bytes)
+
 -- from a fresh reader on, after any bytes
 module _ (bytes : List ℕ) where
   abbrev line : Line
   line = lineAfter freshLine bytes
 
-  fed-is : line .fed ≡ length bytes
-  fed-is = fed-counts freshLine bytes ∙ zero-add (length bytes)
-
   stray-is : line .stray ≡ straysOf freshLine bytes
   stray-is = stray-counts freshLine bytes ∙ zero-add (straysOf freshLine bytes)
 
-  pub fed-is-all : readerOf line .fed ≡ length bytes % 2 ^ 32
-  fed-is-all = ap (λ n. n % 2 ^ 32) fed-is
+  sum : line .fed ≡ lengthsOf freshLine bytes + straysOf freshLine bytes + length (line .held)
+  sum = fed-counts freshLine bytes ∙ account freshLine bytes good-fresh
 
-  pub stray-is-true : readerOf line .stray ≡ straysOf freshLine bytes % 2 ^ 32
-  stray-is-true = ap (λ n. n % 2 ^ 32) stray-is
+-- and so of the reader that any caller's loop leaves
+pub the-account-holds : TheAccountHolds
+the-account-holds served used =
+    let bytes = bytesServed served in
+    let told = cut-anywhere (feeding feedReader) feeding-splits served freshLine freshReader good-fresh refl used in (
+      ap (λ reader. reader .fed) (told .1)
+          ∙ ap (λ n. n % 2 ^ 32) (sum bytes)
+          ∙ ap (λ len. (lengthsOf freshLine bytes + straysOf freshLine bytes + len) % 2 ^ 32) (sym (ap (λ reader. reader .len) (told .1))),
+      ap sizesOf (told .0) ∙ heard-sizes freshLine bytes,
+      ap (λ reader. reader .stray) (told .1) ∙ ap (λ n. n % 2 ^ 32) (stray-is bytes),
+    )
 
-  sum : length bytes ≡ lengthsOf freshLine bytes + straysOf freshLine bytes + length (line .held)
-  sum = sym (zero-add (length bytes)) ∙ account freshLine bytes good-fresh
+end-size : (held : List ℕ) (start : ℕ) → length held ≡ sizesOf (heardThen (heardFor (toldByEnd held) start) [])
+end-size [] start = refl
+end-size (first ∷ held) start = omega arith
 
-  pub fresh-account : readerOf line .fed ≡ (lengthsOf freshLine bytes + straysOf freshLine bytes + readerOf line .len) % 2 ^ 32
-  fresh-account = fed-is-all ∙ ap (λ n. n % 2 ^ 32) sum
-
-  -- and after the end of the line, whose event has the bytes held
-  end-size : (held : List ℕ) → eventSize (toldByEnd held) ≡ length held
-  end-size [] = refl
-  end-size (first ∷ held) = refl
-
-  pub ended-account : readerOf (ended line) .fed ≡ (lengthsOf freshLine bytes + eventSize (toldByEnd (line .held)) + straysOf freshLine bytes + readerOf (ended line) .len) % 2 ^ 32
-  ended-account =
-      let same : lengthsOf freshLine bytes + straysOf freshLine bytes + length (line .held)
-      ≡ lengthsOf freshLine bytes + eventSize (toldByEnd (line .held)) + straysOf freshLine bytes + 0 = omega (arith, end-size (line .held)) in
-      fresh-account ∙ ap (λ n. n % 2 ^ 32) same
+pub the-account-holds-after-the-end : TheAccountHoldsAfterTheEnd
+the-account-holds-after-the-end served used =
+    let bytes = bytesServed served in
+    let line = lineAfter freshLine bytes in
+    let told = cut-anywhere (feeding feedReader) feeding-splits served freshLine freshReader good-fresh refl used in
+    let ended-so = ap endReader (told .1) ∙ end-good line (good-after freshLine bytes good-fresh) in
+    let moved : lengthsOf freshLine bytes + straysOf freshLine bytes + length (line .held)
+    ≡ lengthsOf freshLine bytes + sizesOf (heardThen (heardFor (toldByEnd (line .held)) (startOf line)) []) + straysOf freshLine bytes =
+    omega (arith, end-size (line .held) (startOf line)) in (
+      ap (λ ended. ended .reader .fed) ended-so
+          ∙ ap (λ n. n % 2 ^ 32) (sum bytes ∙ moved)
+          ∙ ap (λ ended. (lengthsOf freshLine bytes + sizesOf (heardThen (ended .heard) []) + straysOf freshLine bytes) % 2 ^ 32) (sym ended-so),
+      ap (λ ended. ended .reader .stray) ended-so ∙ ap (λ n. n % 2 ^ 32) (stray-is bytes),
+    )

@@ -1,59 +1,23 @@
 -- Cut independence: any way of cutting a line into pieces, each fed until it is used up, tells the same and leaves the same reader.
--- Assumes nothing.
-use mathlib.Core.Path.{_≡_, refl, ap, ap₂, sym, _∙_}
-use mathlib.Core.List.{List, [], _∷_, _++_, map}
+-- It is proved of any call that splits what a piece tells, and so of `feed` and `use_up`. Assumes nothing.
+use mathlib.Core.Path.{_≡_, refl, ap, ap₂, sym, _∙_, subst, subst⁻¹}
+use mathlib.Core.List.{List, [], _∷_, _++_, map, append-nil, append-assoc}
 use Prim.Native.Nat.{ℕ, zero, suc, _+_, _-_, _≤_, _<_}
 use Prim.{tt}
 use native.Mathlib.Numerals.{add-one}
 use native.Mathlib.Omega.{arith}
 use lib.ListN.{length, drop, length-drop}
 use Rattle.line.specs.declared.Reader.{Reader}
-use Rattle.line.specs.declared.Fed.{Fed}
 use Rattle.line.specs.declared.Heard.{Heard}
-use Rattle.line.specs.Line.{Line, Told, nothing, event, Feeding, stopOr, feedOf, toldBy, step, startOf, readerOf, heardFor, fedFor, freshLine, freshReader}
-use Rattle.line.specs.Cuts.{tells, eventsOf, lineAfter, Calls, heardThen, calls, Served, bytesServed, heardFrom, readerAfter, UsedUp}
-use Rattle.line.proofs.Wraps.{feed-reader}
-use Rattle.line.proofs.StaysGood.{Good, good-step, good-feed}
+use Rattle.line.specs.Line.{Line, Told, nothing, event, Feeding, stopOr, feedOf, toldBy, step, startOf, readerOf, lineOf, heardFor, fedFor, freshLine, freshReader, wellFormed, AsDeclared, feedReader}
+use Rattle.line.specs.Cuts.{tells, eventsOf, lineAfter, Calls, heardThen, calledFor, feeding, joined, callsOf, Served, bytesServed, heardOf, readerBehind, AllUsedUp, serve}
+use Rattle.line.specs.Sentences.{TakesSome, UsesUpAnyCut, TellsTheLine, FeedingTellsTheLine, SameByAnyCut, CutIndependence}
+use Rattle.line.proofs.ReaderLaws.{reader-back}
+use Rattle.line.proofs.StaysGood.{Good, good-step, good-feed, good-line, feed-good}
 
--- one call splits what the piece tells into what was heard and what the rest tells
-abbrev pub Splits : List Heard → Line → Feeding → List ℕ → Type 0
-Splits events after feeding rest =
-    (events ≡ heardThen (heardFor (feeding .told) (feeding .at)) (eventsOf (feeding .line) rest)) × (after ≡ lineAfter (feeding .line) rest)
-
-split-by : (told : Told) (start byte : ℕ) (next : Line) (on : Feeding) (piece : List ℕ)
-    → Splits (eventsOf next piece) (lineAfter next piece) on (drop (on .taken) piece)
-    → Splits (tells told start (eventsOf next piece)) (lineAfter next piece) (stopOr told start next on) (drop (stopOr told start next on .taken) (byte ∷ piece))
-split-by nothing start byte next on piece h = rw (add-one (on .taken)) h
-split-by (event outcome size) start byte next on piece h = (refl, refl)
-
-pub feed-splits : (line : Line) (piece : List ℕ) → Splits (eventsOf line piece) (lineAfter line piece) (feedOf line piece) (drop (feedOf line piece .taken) piece)
-feed-splits line [] = (refl, refl)
-feed-splits line (byte ∷ piece) =
-    split-by (toldBy (line .held) byte) (startOf line) byte (step line byte) (feedOf (step line byte) piece) piece (feed-splits (step line byte) piece)
-
--- any number of calls that uses a piece up
-abbrev pub after-call : ℕ → Fed → List ℕ → Calls
-after-call n fed piece =
-    record {
-      reader = calls n (fed .reader) (drop (fed .taken) piece) .reader;
-      rest = calls n (fed .reader) (drop (fed .taken) piece) .rest;
-      heard = heardThen (fed .heard) (calls n (fed .reader) (drop (fed .taken) piece) .heard);
-    }
-
-pub first-call : (n : ℕ) (line : Line) → Good line → (piece : List ℕ) → calls (suc n) (readerOf line) piece ≡ after-call n (fedFor (feedOf line piece)) piece
-first-call n line good piece = ap (λ fed. after-call n fed piece) (feed-reader (line .held) (line .fed) (line .stray) (good .fits) (good .started) piece)
-
-pub calls-tell : (n : ℕ) (line : Line) → Good line → (piece : List ℕ) → calls n (readerOf line) piece .rest ≡ []
-    → (calls n (readerOf line) piece .heard ≡ eventsOf line piece) × (calls n (readerOf line) piece .reader ≡ readerOf (lineAfter line piece))
-calls-tell zero line good piece used = (ap (eventsOf line) (sym used), ap (λ rest. readerOf (lineAfter line rest)) (sym used))
-calls-tell (suc n) line good piece used =
-    let feeding = feedOf line piece in
-    let whole = first-call n line good piece in
-    let splits = feed-splits line piece in
-    let on = calls-tell n (feeding .line) (good-feed line piece good) (drop (feeding .taken) piece) (sym (ap (λ c. c .rest) whole) ∙ used) in (
-      ap (λ c. c .heard) whole ∙ ap (heardThen (heardFor (feeding .told) (feeding .at))) (on .0) ∙ sym (splits .0),
-      ap (λ c. c .reader) whole ∙ on .1 ∙ ap readerOf (sym (splits .1)),
-    )
+-- a fresh reader
+pub good-fresh : Good freshLine
+good-fresh = record { fits = omega arith; started = refl }
 
 -- one piece behind another
 tells-on : (told : Told) (start : ℕ) (events more : List Heard) → tells told start (events ++ more) ≡ tells told start events ++ more
@@ -74,33 +38,64 @@ pub good-after : (line : Line) (piece : List ℕ) → Good line → Good (lineAf
 good-after line [] good = good
 good-after line (byte ∷ piece) good = good-after (step line byte) piece (good-step line byte good)
 
-pub cut-anywhere : (served : List Served) (line : Line) (reader : Reader) → Good line → reader ≡ readerOf line → UsedUp reader served
-    → (heardFrom reader served ≡ eventsOf line (bytesServed served)) × (readerAfter reader served ≡ readerOf (lineAfter line (bytesServed served)))
-cut-anywhere [] line reader good is used = (refl, is)
-cut-anywhere (served ∷ others) line reader good is used =
-    let over = ap (λ r. calls (served .times) r (served .piece) .rest) (sym is) ∙ used .0 in
-    let here = calls-tell (served .times) line good (served .piece) over in
-    let next = ap (λ r. calls (served .times) r (served .piece) .reader) is ∙ here .1 in
-    let heard = ap (λ r. calls (served .times) r (served .piece) .heard) is ∙ here .0 in
-    let on = cut-anywhere others (lineAfter line (served .piece)) (calls (served .times) reader (served .piece) .reader) (good-after line (served .piece) good) next (used .1) in (
-      ap₂ _++_ heard (on .0) ∙ sym (events-join line (served .piece) (bytesServed others)),
-      on .1 ∙ ap readerOf (sym (after-join line (served .piece) (bytesServed others))),
-    )
+-- calls on a piece split what it tells into what was heard and what the rest tells
+pub record Splits (line : Line) (piece : List ℕ) (called : Calls) : Type 0 where
+  pub left : Line
+  pub good : Good left
+  pub reader : called .reader ≡ readerOf left
+  pub events : eventsOf line piece ≡ called .heard ++ eventsOf left (called .rest)
+  pub after : lineAfter line piece ≡ lineAfter left (called .rest)
 
--- two cuts of one line, fed to one reader, tell the same and leave the same reader
-pub cut-independence : (a b : List Served) (line : Line) → Good line → bytesServed a ≡ bytesServed b → UsedUp (readerOf line) a → UsedUp (readerOf line) b
-    → (heardFrom (readerOf line) a ≡ heardFrom (readerOf line) b) × (readerAfter (readerOf line) a ≡ readerAfter (readerOf line) b)
-cut-independence a b line good same used-a used-b =
-    let of-a = cut-anywhere a line (readerOf line) good refl used-a in
-    let of-b = cut-anywhere b line (readerOf line) good refl used-b in
-    (of-a .0 ∙ ap (eventsOf line) same ∙ sym (of-b .0), of-a .1 ∙ ap (λ bytes. readerOf (lineAfter line bytes)) same ∙ sym (of-b .1))
+pub split-on : {line : Line} {piece : List ℕ} (first later : Calls) (here : Splits line piece first) → Splits (here .left) (first .rest) later
+    → Splits line piece (joined first later)
+split-on first later here on =
+    record {
+      left = on .left;
+      good = on .good;
+      reader = on .reader;
+      events =
+          here .events
+          ∙ ap (_++_ (first .heard)) (on .events)
+          ∙ sym (append-assoc (first .heard) (later .heard) (eventsOf (on .left) (later .rest)));
+      after = here .after ∙ on .after;
+    }
 
--- such a feeding always is: a call takes at least one byte of a piece that has one
+-- a call that does so on every piece, and leaves less of it
+pub record Splitting (call : Reader → List ℕ → Calls) : Type 0 where
+  pub splits : (line : Line) → Good line → (piece : List ℕ) → Splits line piece (call (readerOf line) piece)
+  pub less : (line : Line) → Good line → (piece : List ℕ) (n : ℕ) → length piece ≤ suc n → length (call (readerOf line) piece .rest) ≤ n
+
+-- feed is such a call
+abbrev pub Parts : List Heard → Line → Feeding → List ℕ → Type 0
+Parts events after feeding rest =
+    (events ≡ heardThen (heardFor (feeding .told) (feeding .at)) [] ++ eventsOf (feeding .line) rest) × (after ≡ lineAfter (feeding .line) rest)
+
+parts-by : (told : Told) (start byte : ℕ) (next : Line) (on : Feeding) (piece : List ℕ)
+    → Parts (eventsOf next piece) (lineAfter next piece) on (drop (on .taken) piece)
+    → Parts (tells told start (eventsOf next piece)) (lineAfter next piece) (stopOr told start next on) (drop (stopOr told start next on .taken) (byte ∷ piece))
+parts-by nothing start byte next on piece h = rw (add-one (on .taken)) h
+parts-by (event outcome size) start byte next on piece h = (refl, refl)
+
+pub feed-parts : (line : Line) (piece : List ℕ) → Parts (eventsOf line piece) (lineAfter line piece) (feedOf line piece) (drop (feedOf line piece .taken) piece)
+feed-parts line [] = (refl, refl)
+feed-parts line (byte ∷ piece) =
+    parts-by (toldBy (line .held) byte) (startOf line) byte (step line byte) (feedOf (step line byte) piece) piece (feed-parts (step line byte) piece)
+
+abbrev pub feed-splits : (line : Line) → Good line → (piece : List ℕ) → Splits line piece (calledFor (fedFor (feedOf line piece)) piece)
+feed-splits line good piece =
+    record {
+      left = feedOf line piece .line;
+      good = good-feed line piece good;
+      reader = refl;
+      events = feed-parts line piece .0;
+      after = feed-parts line piece .1;
+    }
+
 pub some-by : (told : Told) (start : ℕ) (next : Line) (on : Feeding) → 0 < stopOr told start next on .taken
 some-by nothing start next on = omega arith
 some-by (event outcome size) start next on = omega arith
 
-pub shorter : (line : Line) (piece : List ℕ) (n : ℕ) → length piece ≤ suc n → length (drop (feedOf line piece .taken) piece) ≤ n
+shorter : (line : Line) (piece : List ℕ) (n : ℕ) → length piece ≤ suc n → length (drop (feedOf line piece .taken) piece) ≤ n
 shorter line [] n h = omega arith
 shorter line (byte ∷ piece) n h =
     omega (
@@ -109,28 +104,91 @@ shorter line (byte ∷ piece) n h =
       some-by (toldBy (line .held) byte) (startOf line) (step line byte) (feedOf (step line byte) piece),
     )
 
-pub enough-calls : (n : ℕ) (line : Line) → Good line → (piece : List ℕ) → length piece ≤ n → calls n (readerOf line) piece .rest ≡ []
-enough-calls zero line good [] h = refl
-enough-calls zero line good (byte ∷ piece) h = absurd (omega arith)
-enough-calls (suc n) line good piece h =
-    ap (λ c. c .rest) (first-call n line good piece)
-    ∙ enough-calls n (feedOf line piece .line) (good-feed line piece good) (drop (feedOf line piece .taken) piece) (shorter line piece n h)
+pub feeding-splits : Splitting (feeding feedReader)
+feeding-splits =
+    record {
+      splits = λ line good piece. subst⁻¹ (λ fed. Splits line piece (calledFor fed piece)) (feed-good line good piece) (feed-splits line good piece);
+      less = λ line good piece n h. subst⁻¹ (λ fed. length (drop (fed .taken) piece) ≤ n) (feed-good line good piece) (shorter line piece n h);
+    }
 
-abbrev pub serve : List ℕ → Served
-serve piece = record { piece = piece; times = length piece }
+-- a caller's loop over any such call
+module _ (call : Reader → List ℕ → Calls) (splitting : Splitting call) where
+  repeats : (n : ℕ) (line : Line) → Good line → (piece : List ℕ) → Splits line piece (callsOf call n (readerOf line) piece)
+  repeats zero line good piece = record { left = line; good = good; reader = refl; events = refl; after = refl }
+  repeats (suc n) line good piece =
+      let first = call (readerOf line) piece in
+      let here = splitting .splits line good piece in
+      split-on first (callsOf call n (first .reader) (first .rest)) here
+      (subst⁻¹ (λ reader. Splits (here .left) (first .rest) (callsOf call n reader (first .rest))) (here .reader)
+      (repeats n (here .left) (here .good) (first .rest)))
 
-pub a-feeding-is : (pieces : List (List ℕ)) (line : Line) (reader : Reader) → Good line → reader ≡ readerOf line → UsedUp reader (map serve pieces)
-a-feeding-is [] line reader good is = tt
-a-feeding-is (piece ∷ pieces) line reader good is =
-    let over = enough-calls (length piece) line good piece (omega arith) in (
-      ap (λ r. calls (length piece) r piece .rest) is ∙ over,
-      a-feeding-is pieces (lineAfter line piece) (calls (length piece) reader piece .reader) (good-after line piece good)
-          (ap (λ r. calls (length piece) r piece .reader) is ∙ calls-tell (length piece) line good piece over .1),
+  calls-tell : (n : ℕ) (line : Line) → Good line → (piece : List ℕ) → callsOf call n (readerOf line) piece .rest ≡ []
+      → (callsOf call n (readerOf line) piece .heard ≡ eventsOf line piece) × (callsOf call n (readerOf line) piece .reader ≡ readerOf (lineAfter line piece))
+  calls-tell n line good piece used =
+      let called = callsOf call n (readerOf line) piece in
+      let all = repeats n line good piece in (
+        sym (all .events ∙ ap (λ rest. called .heard ++ eventsOf (all .left) rest) used ∙ append-nil (called .heard)),
+        all .reader ∙ ap readerOf (sym (all .after ∙ ap (lineAfter (all .left)) used)),
+      )
+
+  pub cut-anywhere : (served : List Served) (line : Line) (reader : Reader) → Good line → reader ≡ readerOf line → AllUsedUp call reader served
+      → (heardOf call reader served ≡ eventsOf line (bytesServed served)) × (readerBehind call reader served ≡ readerOf (lineAfter line (bytesServed served)))
+  cut-anywhere [] line reader good is used = (refl, is)
+  cut-anywhere (served ∷ others) line reader good is used =
+      let over = ap (λ r. callsOf call (served .times) r (served .piece) .rest) (sym is) ∙ used .0 in
+      let here = calls-tell (served .times) line good (served .piece) over in
+      let next = ap (λ r. callsOf call (served .times) r (served .piece) .reader) is ∙ here .1 in
+      let heard = ap (λ r. callsOf call (served .times) r (served .piece) .heard) is ∙ here .0 in
+      let on = cut-anywhere others (lineAfter line (served .piece)) (callsOf call (served .times) reader (served .piece) .reader) (good-after line (served .piece) good) next (used .1) in (
+        ap₂ _++_ heard (on .0) ∙ sym (events-join line (served .piece) (bytesServed others)),
+        on .1 ∙ ap readerOf (sym (after-join line (served .piece) (bytesServed others))),
+      )
+
+  -- such a feeding always is
+  enough-calls : (n : ℕ) (line : Line) → Good line → (piece : List ℕ) → length piece ≤ n → callsOf call n (readerOf line) piece .rest ≡ []
+  enough-calls zero line good [] h = refl
+  enough-calls zero line good (byte ∷ piece) h = absurd (omega arith)
+  enough-calls (suc n) line good piece h =
+      let first = call (readerOf line) piece in
+      let here = splitting .splits line good piece in
+      ap (λ reader. callsOf call n reader (first .rest) .rest) (here .reader)
+      ∙ enough-calls n (here .left) (here .good) (first .rest) (splitting .less line good piece n h)
+
+  pub a-feeding-is : (pieces : List (List ℕ)) (line : Line) (reader : Reader) → Good line → reader ≡ readerOf line → AllUsedUp call reader (map serve pieces)
+  a-feeding-is [] line reader good is = tt
+  a-feeding-is (piece ∷ pieces) line reader good is =
+      let over = enough-calls (length piece) line good piece (omega arith) in (
+        ap (λ r. callsOf call (length piece) r piece .rest) is ∙ over,
+        a-feeding-is pieces (lineAfter line piece) (callsOf call (length piece) reader piece .reader) (good-after line piece good)
+            (ap (λ r. callsOf call (length piece) r piece .reader) is ∙ calls-tell (length piece) line good piece over .1),
+      )
+
+  -- the same of any well-formed reader
+  pub takes-some : TakesSome call
+  takes-some reader piece declared well some =
+      subst (λ r. length (call r piece .rest) < length piece) (reader-back reader well (declared .0) (declared .1) (declared .2))
+      (omega (arith, splitting .less (lineOf reader) (good-line reader (declared .0) well) piece (length piece - 1) (omega arith)))
+
+  pub uses-up-any-cut : UsesUpAnyCut call
+  uses-up-any-cut reader pieces declared well =
+      a-feeding-is pieces (lineOf reader) reader (good-line reader (declared .0) well) (sym (reader-back reader well (declared .0) (declared .1) (declared .2)))
+
+  pub tells-the-line : TellsTheLine call
+  tells-the-line reader served declared well used =
+      cut-anywhere served (lineOf reader) reader (good-line reader (declared .0) well) (sym (reader-back reader well (declared .0) (declared .1) (declared .2))) used
+
+pub same-by-any-cut : (call other : Reader → List ℕ → Calls) → Splitting call → Splitting other → SameByAnyCut call other
+same-by-any-cut call other splitting others reader a b declared well same used-a used-b =
+    let of-a = tells-the-line call splitting reader a declared well used-a in
+    let of-b = tells-the-line other others reader b declared well used-b in (
+      of-a .0 ∙ ap (eventsOf (lineOf reader)) same ∙ sym (of-b .0),
+      of-a .1 ∙ ap (λ bytes. readerOf (lineAfter (lineOf reader) bytes)) same ∙ sym (of-b .1),
     )
 
--- a fresh reader
-pub good-fresh : Good freshLine
-good-fresh = record { fits = omega arith; started = refl }
+-- by feed
+pub feeding-tells-the-line : FeedingTellsTheLine
+feeding-tells-the-line =
+    (takes-some (feeding feedReader) feeding-splits, uses-up-any-cut (feeding feedReader) feeding-splits, tells-the-line (feeding feedReader) feeding-splits)
 
-pub fresh-is : freshReader ≡ readerOf freshLine
-fresh-is = refl
+pub cut-independence : CutIndependence
+cut-independence = same-by-any-cut (feeding feedReader) (feeding feedReader) feeding-splits feeding-splits

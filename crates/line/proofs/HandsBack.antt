@@ -16,15 +16,16 @@ use Rattle.record.specs.Rule.{refusalOf}
 use Rattle.telegram.specs.Reading.{readOf}
 use Rattle.telegram.specs.Writing.{bodyBytes, telegramOf}
 use Rattle.telegram.proofs.BackAndForth.{written-reads-back}
+use Rattle.line.specs.declared.Reader.{Reader}
 use Rattle.line.specs.declared.Heard.{Heard}
 use Rattle.line.specs.declared.Heard.the-variants.{Nothing, Event, Refused}
 use Rattle.line.specs.Line.{Line, answerFor, readerOf, freshLine, freshReader, endReader}
-use Rattle.line.specs.Cuts.{eventsOf, lineAfter, Served, bytesServed, heardFrom, readerAfter, UsedUp}
+use Rattle.line.specs.Cuts.{eventsOf, lineAfter, Calls, Served, bytesServed, heardOf, readerBehind, AllUsedUp}
 use Rattle.line.specs.SentLine.{Sent, bytesSent, noStx, allGood, eventsSent, straySent}
 use Rattle.line.proofs.FeedLaws.{inside, outside}
 use Rattle.line.proofs.ReaderLaws.{end-outside}
 use Rattle.line.proofs.Wraps.{reader-well}
-use Rattle.line.proofs.CutLaws.{events-join, after-join, cut-anywhere, good-fresh}
+use Rattle.line.proofs.CutLaws.{events-join, after-join, Splitting, cut-anywhere, good-fresh}
 use Rattle.line.proofs.SentLaws.{Gives, plain-body, body-fits, strays-give, plain-gives}
 
 gives-join : (line : Line) (a b : List ℕ) (ea eb : List Heard) (mid after : Line) → Gives line a ea mid → Gives mid b eb after → Gives line (a ++ b) (ea ++ eb) after
@@ -92,25 +93,25 @@ sent-gives (sent ∷ others) behind fed stray good =
     (all .0, all .1 ∙ (λ i. outside (f i) (s i)))
 
 -- cut anywhere, fed to a fresh reader by any caller's loop
-module _ (sents : List Sent) (behind : List ℕ) (good : allGood sents behind ≡ true) (served : List Served) (same : bytesServed served ≡ bytesSent sents behind)
-    (used : UsedUp freshReader served) where
+module _ (call : Reader → List ℕ → Calls) (splitting : Splitting call) (sents : List Sent) (behind : List ℕ) (good : allGood sents behind ≡ true)
+    (served : List Served) (same : bytesServed served ≡ bytesSent sents behind) (used : AllUsedUp call freshReader served) where
   gives : Gives freshLine (bytesSent sents behind) (eventsSent 0 sents) (outside (0 + length (bytesSent sents behind)) (0 + straySent sents behind))
   gives = sent-gives sents behind 0 0 good
 
-  pub exactly-those : heardFrom freshReader served ≡ eventsSent 0 sents
-  exactly-those = cut-anywhere served freshLine freshReader good-fresh refl used .0 ∙ ap (eventsOf freshLine) same ∙ gives .0
+  pub exactly-those : heardOf call freshReader served ≡ eventsSent 0 sents
+  exactly-those = cut-anywhere call splitting served freshLine freshReader good-fresh refl used .0 ∙ ap (eventsOf freshLine) same ∙ gives .0
 
-  pub reader-then : readerAfter freshReader served ≡ readerOf (outside (length (bytesSent sents behind)) (straySent sents behind))
+  pub reader-then : readerBehind call freshReader served ≡ readerOf (outside (length (bytesSent sents behind)) (straySent sents behind))
   reader-then =
-      cut-anywhere served freshLine freshReader good-fresh refl used .1
+      cut-anywhere call splitting served freshLine freshReader good-fresh refl used .1
       ∙ ap (λ bytes. readerOf (lineAfter freshLine bytes)) same
       ∙ ap readerOf (gives .1)
       ∙ (λ i. readerOf (outside (zero-add (length (bytesSent sents behind)) i) (zero-add (straySent sents behind) i)))
 
-  pub true-stray : readerAfter freshReader served .stray ≡ straySent sents behind % 2 ^ 32
+  pub true-stray : readerBehind call freshReader served .stray ≡ straySent sents behind % 2 ^ 32
   true-stray = ap (λ reader. reader .stray) reader-then
 
-  pub end-then : endReader (readerAfter freshReader served) .heard ≡ Nothing
+  pub end-then : endReader (readerBehind call freshReader served) .heard ≡ Nothing
   end-then =
       let last = readerOf (outside (length (bytesSent sents behind)) (straySent sents behind)) in
       ap (λ reader. endReader reader .heard) reader-then

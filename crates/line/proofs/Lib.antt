@@ -13,3 +13,4 @@ pub mod UsesUp
 pub mod AccountLaws
 pub mod SentLaws
 pub mod HandsBack
+pub mod SentencesHold

@@ -2,16 +2,17 @@
 use mathlib.Core.Path.{_≡_, refl}
 use mathlib.Core.Bool.{Bool, true, false, cond}
 use mathlib.Core.List.{List, [], _∷_, _++_}
-use Prim.Native.Nat.{ℕ, _+_, _-_, _≤_}
+use Prim.Native.Nat.{ℕ, _+_, _-_, _%_, _^_, _≤_}
 use native.Mathlib.Omega.{arith}
 use lib.Dec.{eqb, leb}
 use lib.ListN.{length}
 use Rattle.refusals.proofs.Laws.{both}
 use Rattle.line.specs.declared.Reader.{Reader}
-use Rattle.line.specs.Line.{Line, Told, nothing, event, Feeding, stopOr, feedOf, heldAfter, toldBy, step, readerOf, lineOf, isPlain, allPlain, isStarted, wellFormed, feedReader, endReader}
+use Rattle.line.specs.Line.{Line, Told, nothing, event, Feeding, stopOr, feedOf, heldAfter, toldBy, step, startOf, ended, toldByEnd, readerOf, lineOf, isPlain, allPlain, isStarted, wellFormed, heardFor, fedFor, feedReader, endReader}
 use Rattle.line.proofs.Forms.{taken-length}
 use Rattle.line.proofs.ReaderLaws.{well}
-use Rattle.line.proofs.Wraps.{held-fits, reader-well}
+use Rattle.line.proofs.Inside.{reader-wraps}
+use Rattle.line.proofs.Wraps.{held-fits, held-back, reader-well, feed-reader}
 
 -- a line whose reader is well formed
 pub record Good (line : Line) : Type 0 where
@@ -56,6 +57,19 @@ good-feed line (byte ∷ piece) good =
 
 pub reader-of-good : (line : Line) → Good line → wellFormed (readerOf line) ≡ true
 reader-of-good line good = reader-well (line .held) (line .fed) (line .stray) (good .fits) (good .started)
+
+-- what a reader of such a line answers
+pub feed-good : (line : Line) → Good line → (piece : List ℕ) → feedReader (readerOf line) piece ≡ fedFor (feedOf line piece)
+feed-good line good piece = feed-reader (line .held) (line .fed) (line .stray) (good .fits) (good .started) piece
+
+pub end-good : (line : Line) → Good line → endReader (readerOf line) ≡ record { reader = readerOf (ended line); heard = heardFor (toldByEnd (line .held)) (startOf line) }
+unfolding endReader
+end-good line good =
+    rw (reader-of-good line good)
+    (λ i. record {
+      reader = reader-wraps [] (line .fed % 2 ^ 32) (line .fed) (line .stray % 2 ^ 32) (line .stray) (omega arith) (omega arith) (omega arith) i;
+      heard = heardFor (toldByEnd (held-back (line .held) (line .fed) (line .stray) (good .fits) (good .started) i)) (startOf line);
+    })
 
 module _ (reader : Reader) (size : length (reader .held) ≡ 24) (e : wellFormed reader ≡ true) where
   pub good-line : Good (lineOf reader)

@@ -1,106 +1,20 @@
--- A piece that is used up by `use_up` is a feeding like any caller's, so every law about cuts holds of it. Assumes nothing.
-use mathlib.Core.Path.{_≡_, refl, ap, sym, _∙_, subst⁻¹}
-use mathlib.Core.List.{List, [], _∷_}
+-- `use_up` in a caller's loop, on pieces of any length, is a feeding like any other, so every law about cuts holds of it. Assumes nothing.
+use mathlib.Core.Path.{_≡_, refl, ap, sym, _∙_, subst, subst⁻¹}
+use mathlib.Core.List.{List, [], _∷_, _++_, map}
 use Prim.Native.Nat.{ℕ, zero, suc, _+_, _-_, _≤_, _<_}
-use Prim.{Unit, tt}
-use native.Mathlib.Numerals.{add-one}
 use native.Mathlib.Omega.{arith}
-use lib.ListN.{length, take, drop}
-use lib.Seq.{drop-drop, take-add}
+use lib.ListN.{length, take, drop, replicate, length-map, length-drop}
+use lib.Seq.{drop-drop, take-add, take-append-seam}
 use Rattle.line.specs.declared.Reader.{Reader}
 use Rattle.line.specs.declared.Fed.{Fed}
 use Rattle.line.specs.declared.Heard.{Heard}
 use Rattle.line.specs.declared.Heard.the-variants.{Nothing, Event, Refused}
 use Rattle.line.specs.Line.{Line, Told, nothing, event, Feeding, stopOr, feedOf, toldBy, step, startOf, readerOf, heardFor, answerFor, feedReader}
-use Rattle.line.specs.Cuts.{Calls, calls, eventsOf, lineAfter}
-use Rattle.line.specs.Pieces.{Passing, passOn, passing}
-use Rattle.line.proofs.Wraps.{feed-reader}
-use Rattle.line.proofs.StaysGood.{Good, good-feed}
-use Rattle.line.proofs.CutLaws.{after-call, some-by, shorter, calls-tell, after-join}
-
--- how many calls are made with room for so many events
-abbrev callsAfter : Heard → ℕ → ℕ
-callsAfter Nothing later = 0
-callsAfter (Event answer start size) later = later
-callsAfter (Refused number) later = 0
-
-unfoldable pub callsMade : ℕ → Reader → List ℕ → ℕ
-callsMade zero reader piece = 0
-callsMade (suc room) reader piece =
-    suc (callsAfter (feedReader reader piece .heard) (callsMade room (feedReader reader piece .reader) (drop (feedReader reader piece .taken) piece)))
-
--- the events, the reader and the rest are those of so many calls, and none was refused
-abbrev pub AsCalled : Passing → Calls → List ℕ → Type 0
-AsCalled passing called piece =
-    (passing .events ≡ called .heard) × (passing .reader ≡ called .reader) × (drop (passing .taken) piece ≡ called .rest) × (passing .refusal ≡ 0)
-
-called-by : (told : Told) (at taken : ℕ) (next : Reader) (later : Passing) (n : ℕ) (piece : List ℕ) → AsCalled later (calls n next (drop taken piece)) (drop taken piece)
-    → let fed : Fed = record { reader = next; taken = taken; heard = heardFor told at } in
-    AsCalled (passOn (heardFor told at) fed later) (after-call (callsAfter (heardFor told at) n) fed piece) piece
-called-by nothing at taken next later n piece on = (refl, refl, refl, refl)
-called-by (event outcome size) at taken next later n piece on =
-    (ap (_∷_ (Event (answerFor outcome) at size)) (on .0), on .1, sym (drop-drop (later .taken) taken piece) ∙ on .2, on .3)
-
--- a first call, and what it leads to
-abbrev After : ℕ → List ℕ → Fed → Type 0
-After room piece fed =
-    AsCalled (passOn (fed .heard) fed (passing room (fed .reader) (drop (fed .taken) piece)))
-    (after-call (callsAfter (fed .heard) (callsMade room (fed .reader) (drop (fed .taken) piece))) fed piece)
-    piece
-
-pub is-a-loop : (room : ℕ) (line : Line) → Good line → (piece : List ℕ)
-    → AsCalled (passing room (readerOf line) piece) (calls (callsMade room (readerOf line) piece) (readerOf line) piece) piece
-unfolding passing callsMade
-is-a-loop zero line good piece = (refl, refl, refl, refl)
-is-a-loop (suc room) line good piece =
-    let feeding = feedOf line piece in
-    let rest = drop (feeding .taken) piece in
-    let on = is-a-loop room (feeding .line) (good-feed line piece good) rest in
-    let reader = readerOf (feeding .line) in
-    subst⁻¹ (After room piece) (feed-reader (line .held) (line .fed) (line .stray) (good .fits) (good .started) piece)
-    (called-by (feeding .told) (feeding .at) (feeding .taken) reader (passing room reader rest) (callsMade room reader rest) piece on)
-
--- a call that hears nothing took the whole piece
-abbrev Silent : Told → Type 0
-Silent nothing = Unit
-Silent (event outcome size) = ⊥
-
-whole-by : (told : Told) (start byte : ℕ) (next : Line) (on : Feeding) (piece : List ℕ) → (Silent (on .told) → drop (on .taken) piece ≡ [])
-    → Silent (stopOr told start next on .told) → drop (stopOr told start next on .taken) (byte ∷ piece) ≡ []
-whole-by nothing start byte next on piece h silent = rw (add-one (on .taken)) (h silent)
-whole-by (event outcome size) start byte next on piece h silent = absurd silent
-
-silent-took-all : (line : Line) (piece : List ℕ) → Silent (feedOf line piece .told) → drop (feedOf line piece .taken) piece ≡ []
-silent-took-all line [] silent = refl
-silent-took-all line (byte ∷ piece) silent =
-    whole-by (toldBy (line .held) byte) (startOf line) byte (step line byte) (feedOf (step line byte) piece) piece (silent-took-all (step line byte) piece) silent
-
--- with room for as many events as there are bytes, nothing is left
-left-by : (told : Told) (at taken : ℕ) (next : Reader) (later : Passing) (piece : List ℕ) → (Silent told → drop taken piece ≡ [])
-    → drop (later .taken) (drop taken piece) ≡ []
-    → drop (passOn (heardFor told at) (record { reader = next; taken = taken; heard = heardFor told at }) later .taken) piece ≡ []
-left-by nothing at taken next later piece silent on = silent tt
-left-by (event outcome size) at taken next later piece silent on = sym (drop-drop (later .taken) taken piece) ∙ on
-
-pub nothing-left : (room : ℕ) (line : Line) → Good line → (piece : List ℕ) → length piece ≤ room → drop (passing room (readerOf line) piece .taken) piece ≡ []
-unfolding passing
-nothing-left zero line good [] fits = refl
-nothing-left zero line good (byte ∷ piece) fits = absurd (omega arith)
-nothing-left (suc room) line good piece fits =
-    let feeding = feedOf line piece in
-    let rest = drop (feeding .taken) piece in
-    let on = nothing-left room (feeding .line) (good-feed line piece good) rest (shorter line piece room fits) in
-    let reader = readerOf (feeding .line) in
-    rw (feed-reader (line .held) (line .fed) (line .stray) (good .fits) (good .started) piece)
-    (left-by (feeding .told) (feeding .at) (feeding .taken) reader (passing room reader rest) piece (silent-took-all line piece) on)
-
--- so of a piece that is no longer than the room, all events are handed on and the reader is that of the whole piece
-pub uses-up : (room : ℕ) (line : Line) → Good line → (piece : List ℕ) → length piece ≤ room
-    → (passing room (readerOf line) piece .events ≡ eventsOf line piece) × (passing room (readerOf line) piece .reader ≡ readerOf (lineAfter line piece))
-uses-up room line good piece fits =
-    let called = is-a-loop room line good piece in
-    let told = calls-tell (callsMade room (readerOf line) piece) line good piece (sym (called .2) ∙ nothing-left room line good piece fits) in
-    (called .0 ∙ told .0, called .1 ∙ told .1)
+use Rattle.line.specs.Cuts.{lineAfter, Calls, calledFor, feeding}
+use Rattle.line.specs.Pieces.{Passing, passOn, passing, slotOf, passedFor, handedOn, usingUp}
+use Rattle.line.specs.Sentences.{UsingUpTellsTheLine, UsingUpIsSuchAFeeding}
+use Rattle.line.proofs.StaysGood.{Good, good-feed, feed-good}
+use Rattle.line.proofs.CutLaws.{Splits, Splitting, split-on, feed-splits, feeding-splits, some-by, after-join, takes-some as any-takes-some, uses-up-any-cut, tells-the-line, same-by-any-cut}
 
 -- of any piece: the reader is that of the bytes taken, and of a piece that has a byte at least one is taken
 line-by : (told : Told) (start byte : ℕ) (next : Line) (on : Feeding) (piece : List ℕ) → on .line ≡ lineAfter next (take (on .taken) piece)
@@ -110,7 +24,7 @@ line-by nothing start byte next on piece h =
     h ∙ ap (λ n. lineAfter next (take n piece)) one
 line-by (event outcome size) start byte next on piece h = refl
 
-taken-line : (line : Line) (piece : List ℕ) → feedOf line piece .line ≡ lineAfter line (take (feedOf line piece .taken) piece)
+pub taken-line : (line : Line) (piece : List ℕ) → feedOf line piece .line ≡ lineAfter line (take (feedOf line piece .taken) piece)
 taken-line line [] = refl
 taken-line line (byte ∷ piece) =
     let told = toldBy (line .held) byte in
@@ -140,7 +54,7 @@ reads-taken (suc room) line good piece =
     let rest = drop (feeding .taken) piece in
     let on = reads-taken room (feeding .line) (good-feed line piece good) rest in
     let reader = readerOf (feeding .line) in
-    rw (feed-reader (line .held) (line .fed) (line .stray) (good .fits) (good .started) piece)
+    rw (feed-good line good piece)
     (reads-by (feeding .told) (feeding .at) (feeding .taken) line (feeding .line) (passing room reader rest) piece (taken-line line piece) on)
 
 takes-by : (heard : Heard) (fed : Fed) (later : Passing) → fed .taken ≤ passOn heard fed later .taken
@@ -153,10 +67,64 @@ unfolding passing
 takes-some room line good [] some = absurd (omega arith)
 takes-some room line good (byte ∷ piece) some =
     let fed = feedReader (readerOf line) (byte ∷ piece) in
-    let same = ap (λ f. f .taken) (feed-reader (line .held) (line .fed) (line .stray) (good .fits) (good .started) (byte ∷ piece)) in
+    let same = ap (λ f. f .taken) (feed-good line good (byte ∷ piece)) in
     omega (
       arith,
       takes-by (fed .heard) fed (passing room (fed .reader) (drop (fed .taken) (byte ∷ piece))),
       same,
       some-by (toldBy (line .held) byte) (startOf line) (step line byte) (feedOf (step line byte) piece),
     )
+
+-- what it hands on splits what the piece tells
+abbrev pub after-passing : Passing → List ℕ → Calls
+after-passing passing piece = record { reader = passing .reader; rest = drop (passing .taken) piece; heard = passing .events }
+
+pass-by : {line : Line} {piece : List ℕ} (told : Told) (at taken : ℕ) (next : Line) (later : Passing)
+    → let fed : Fed = record { reader = readerOf next; taken = taken; heard = heardFor told at } in
+    (here : Splits line piece (calledFor fed piece)) → Splits (here .left) (drop taken piece) (after-passing later (drop taken piece))
+    → Splits line piece (after-passing (passOn (heardFor told at) fed later) piece)
+pass-by nothing at taken next later here on = here
+pass-by {line} {piece} (event outcome size) at taken next later here on =
+    subst (λ rest. Splits line piece (record { reader = later .reader; rest = rest; heard = Event (answerFor outcome) at size ∷ later .events }))
+    (drop-drop (later .taken) taken piece)
+    (split-on (calledFor (record { reader = readerOf next; taken = taken; heard = heardFor (event outcome size) at }) piece) (after-passing later (drop taken piece)) here on)
+
+pub passing-splits : (room : ℕ) (line : Line) → Good line → (piece : List ℕ) → Splits line piece (after-passing (passing room (readerOf line) piece) piece)
+unfolding passing
+passing-splits zero line good piece = record { left = line; good = good; reader = refl; events = refl; after = refl }
+passing-splits (suc room) line good piece =
+    let feeding = feedOf line piece in
+    let on = passing-splits room (feeding .line) (good-feed line piece good) (drop (feeding .taken) piece) in
+    subst⁻¹ (λ fed. Splits line piece (after-passing (passOn (fed .heard) fed (passing room (fed .reader) (drop (fed .taken) piece))) piece)) (feed-good line good piece)
+    (pass-by (feeding .told) (feeding .at) (feeding .taken) (feeding .line) (passing room (readerOf (feeding .line)) (drop (feeding .taken) piece)) (feed-splits line good piece) on)
+
+-- the slots that are counted hold the events
+heard-back : (events : List Heard) → map (λ slot. slot .heard) (map slotOf events) ≡ events
+heard-back [] = refl
+heard-back (heard ∷ events) = ap (_∷_ heard) (heard-back events)
+
+pub handed-on : (passing : Passing) → handedOn (passedFor passing) ≡ passing .events
+handed-on passing =
+    let slots = map slotOf (passing .events) ++ replicate (32 - length (passing .events)) (slotOf Nothing) in
+    ap (λ n. map (λ slot. slot .heard) (take n slots)) (sym (length-map (passing .events) slotOf))
+    ∙ ap (map (λ slot. slot .heard)) (take-append-seam (map slotOf (passing .events)) (replicate (32 - length (passing .events)) (slotOf Nothing)))
+    ∙ heard-back (passing .events)
+
+less-by : (taken : ℕ) (piece : List ℕ) (n : ℕ) → (0 < length piece → 0 < taken) → length piece ≤ suc n → length (drop taken piece) ≤ n
+less-by taken [] n some h = let none : List ℕ = [] in omega (arith, length-drop taken none)
+less-by taken (byte ∷ piece) n some h = omega (arith, length-drop taken (byte ∷ piece), some (omega arith))
+
+pub using-up-splits : Splitting usingUp
+using-up-splits =
+    record {
+      splits = λ line good piece.
+          let passed = passing 32 (readerOf line) piece in
+          subst⁻¹ (λ heard. Splits line piece (record { reader = passed .reader; rest = drop (passed .taken) piece; heard = heard })) (handed-on passed) (passing-splits 32 line good piece);
+      less = λ line good piece n h. less-by (passing 32 (readerOf line) piece .taken) piece n (takes-some 31 line good piece) h;
+    }
+
+pub using-up-tells-the-line : UsingUpTellsTheLine
+using-up-tells-the-line = (any-takes-some usingUp using-up-splits, uses-up-any-cut usingUp using-up-splits, tells-the-line usingUp using-up-splits)
+
+pub using-up-is-such-a-feeding : UsingUpIsSuchAFeeding
+using-up-is-such-a-feeding = same-by-any-cut usingUp (feeding feedReader) using-up-splits feeding-splits

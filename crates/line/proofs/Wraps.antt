@@ -59,7 +59,7 @@ all-hold : {a b c d : Bool} → a ≡ true → b ≡ true → c ≡ true → d �
 all-hold p q r s = rw (p, q, r, s)
 
 module _ (held : List ℕ) (fed stray : ℕ) (fits : length held ≤ 24) (started : isStarted held ≡ true) where
-  held-back : take (length held) (held ++ replicate (24 - length held) 0) ≡ held
+  pub held-back : take (length held) (held ++ replicate (24 - length held) 0) ≡ held
   held-back = take-append-seam held (replicate (24 - length held) 0)
 
   rest-back : drop (length held) (held ++ replicate (24 - length held) 0) ≡ replicate (24 - length held) 0

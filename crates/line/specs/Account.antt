@@ -1,6 +1,8 @@
 -- Document 01, "The line, byte by byte": the account of the bytes. "The first two sums are defined from the bytes."
 use mathlib.Core.List.{List, [], _∷_}
 use Prim.Native.Nat.{ℕ, _+_}
+use Rattle.line.specs.declared.Heard.{Heard}
+use Rattle.line.specs.declared.Heard.the-variants.{Nothing, Event, Refused}
 use Rattle.line.specs.Line.{Line, Told, nothing, event, toldBy, strayBy, step}
 
 -- the bytes of an event
@@ -16,3 +18,10 @@ lengthsOf line (byte ∷ bytes) = eventSize (toldBy (line .held) byte) + lengths
 abbrev pub straysOf : Line → List ℕ → ℕ
 straysOf line [] = 0
 straysOf line (byte ∷ bytes) = strayBy (line .held) byte + straysOf (step line byte) bytes
+
+-- the lengths of the events that were heard
+abbrev pub sizesOf : List Heard → ℕ
+sizesOf [] = 0
+sizesOf (Nothing ∷ heard) = sizesOf heard
+sizesOf (Event answer start size ∷ heard) = size + sizesOf heard
+sizesOf (Refused number ∷ heard) = sizesOf heard

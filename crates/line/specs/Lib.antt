@@ -1,6 +1,7 @@
 pub mod Line
 pub mod Runs
-pub mod Pieces
 pub mod Cuts
+pub mod Pieces
 pub mod Account
 pub mod SentLine
+pub mod Sentences

@@ -1,7 +1,8 @@
 -- Document 01, "The line, byte by byte".
 use mathlib.Core.Bool.{Bool, true, cond, not, _&&_}
 use mathlib.Core.List.{List, [], _∷_, _++_}
-use Prim.Native.Nat.{ℕ, _+_, _-_, _%_, _^_}
+use mathlib.Core.Path.{_≡_}
+use Prim.Native.Nat.{ℕ, _+_, _-_, _%_, _^_, _<_}
 use lib.Dec.{leb, eqb}
 use lib.ListN.{length, take, drop, replicate}
 use Rattle.refusals.specs.Refusals.{Outcome, done, refused}
@@ -123,6 +124,10 @@ wellFormed reader =
     leb (reader .len) 24
     && (isStarted (take (reader .len) (reader .held))
     && (allZero (drop (reader .len) (reader .held)) && eqb (reader .start) (startOf (lineOf reader))))
+
+-- what a reader's declaration says already: an array of 24 places, and counts of 32 bits
+abbrev pub AsDeclared : Reader → Type 0
+AsDeclared reader = (length (reader .held) ≡ 24) × (reader .fed < 2 ^ 32) × (reader .stray < 2 ^ 32)
 
 -- what is handed out: for each case the paper's number and values. 15 is no event
 abbrev pub answerFor : Outcome Record → RecordAnswer

@@ -1,7 +1,7 @@
 -- A whole piece used up: "the caller passes on the rest of the piece that it hasn't taken".
 use mathlib.Core.List.{List, [], _∷_, _++_, map}
 use Prim.Native.Nat.{ℕ, zero, suc, _+_, _-_}
-use lib.ListN.{length, drop, replicate}
+use lib.ListN.{length, take, drop, replicate}
 use Rattle.line.specs.declared.Reader.{Reader}
 use Rattle.line.specs.declared.Heard.{Heard}
 use Rattle.line.specs.declared.Heard.the-variants.{Nothing, Event, Refused}
@@ -9,6 +9,7 @@ use Rattle.line.specs.declared.Fed.{Fed}
 use Rattle.line.specs.declared.pieces.Slot.{Slot}
 use Rattle.line.specs.declared.pieces.Passed.{Passed}
 use Rattle.line.specs.Line.{feedReader}
+use Rattle.line.specs.Cuts.{Calls}
 
 -- what a piece gives: the events in their order, how many bytes were taken, the reader after them, and 15 or no refusal
 pub record Passing : Type 0 where
@@ -41,3 +42,13 @@ slotsFor events = map slotOf events ++ replicate (32 - length events) (slotOf No
 abbrev pub passedFor : Passing → Passed
 passedFor passing =
     record { slots = slotsFor (passing .events); count = length (passing .events); reader = passing .reader; taken = passing .taken; refusal = passing .refusal }
+
+-- one call of `use_up` in a caller's loop: the events that were handed on, and the rest of the piece
+abbrev pub handedOn : Passed → List Heard
+handedOn passed = map (λ slot. slot .heard) (take (passed .count) (passed .slots))
+
+abbrev pub usedFor : Passed → List ℕ → Calls
+usedFor passed piece = record { reader = passed .reader; rest = drop (passed .taken) piece; heard = handedOn passed }
+
+abbrev pub usingUp : Reader → List ℕ → Calls
+usingUp reader piece = usedFor (passedFor (passing 32 reader piece)) piece

@@ -1,0 +1,78 @@
+-- Document 01's sentences on the line hold, but for the account (AccountLaws) and the cuts (CutLaws, UsesUp). Assumes nothing.
+use mathlib.Core.Path.{_≡_, refl, ap, sym, _∙_, subst⁻¹}
+use mathlib.Core.List.{List, [], _∷_}
+use Prim.Native.Nat.{ℕ, zero, suc, _+_, _-_, _≤_}
+use native.Mathlib.Numerals.{add-one}
+use native.Mathlib.Omega.{arith}
+use lib.ListN.{length, take}
+use Rattle.line.specs.declared.Heard.{Heard}
+use Rattle.line.specs.declared.Heard.the-variants.{Nothing, Event}
+use Rattle.line.specs.Line.{Line, Told, nothing, event, Feeding, stopOr, feedOf, toldBy, step, startOf, readerOf, lineOf, freshLine, heardFor, fedFor, wellFormed, feedReader, endReader}
+use Rattle.line.specs.Cuts.{tells, eventsOf, lineAfter, heardThen}
+use Rattle.line.specs.Pieces.{passing}
+use Rattle.line.specs.Sentences.{AFreshOneHoldsNone, AGoodStateStaysGood, OneByteGivesAtMostOneEvent, StopsAfterTheFirstEvent, ACallStopsAfterTheFirstEvent, AnEmptyPieceGivesNothing, TheEndLeavesItOutside}
+use Rattle.line.proofs.ReaderLaws.{reader-back}
+use Rattle.line.proofs.StaysGood.{Good, good-line, reader-of-good, feed-stays-good, end-stays-good}
+use Rattle.line.proofs.CutLaws.{good-fresh}
+use Rattle.line.proofs.UsesUp.{taken-line, passing-splits}
+
+pub a-fresh-one-holds-none : AFreshOneHoldsNone
+a-fresh-one-holds-none = (reader-of-good freshLine good-fresh, refl, refl, refl, refl)
+
+pub a-good-state-stays-good : AGoodStateStaysGood
+a-good-state-stays-good reader piece declared well =
+    let line = lineOf reader in
+    let split = passing-splits 32 line (good-line reader (declared .0) well) piece in
+    let is = reader-back reader well (declared .0) (declared .1) (declared .2) in (
+      feed-stays-good reader (declared .0) well piece,
+      ap (λ r. wellFormed (passing 32 r piece .reader)) (sym is) ∙ ap wellFormed (split .reader) ∙ reader-of-good (split .left) (split .good),
+      end-stays-good reader (declared .0) well,
+    )
+
+-- at most one event a byte
+one-by : (told : Told) (start : ℕ) (later : List Heard) (n : ℕ) → length later ≤ n → length (tells told start later) ≤ suc n
+one-by nothing start later n h = omega (arith, h)
+one-by (event outcome size) start later n h = omega (arith, h)
+
+pub one-byte-gives-at-most-one-event : OneByteGivesAtMostOneEvent
+one-byte-gives-at-most-one-event line [] = omega arith
+one-byte-gives-at-most-one-event line (byte ∷ bytes) =
+    one-by (toldBy (line .held) byte) (startOf line) (eventsOf (step line byte) bytes) (length bytes) (one-byte-gives-at-most-one-event (step line byte) bytes)
+
+-- a call stops after the first event
+abbrev Stops : Line → List ℕ → Feeding → Type 0
+Stops line piece feeding =
+    (heardThen (heardFor (feeding .told) (feeding .at)) [] ≡ eventsOf line (take (feeding .taken) piece))
+    × (eventsOf line (take (feeding .taken - 1) piece) ≡ [])
+    × (heardFor (feeding .told) (feeding .at) ≡ Nothing → feeding .taken ≡ length piece)
+
+stops-by : (line : Line) (byte : ℕ) (piece : List ℕ) (told : Told) (on : Feeding) → toldBy (line .held) byte ≡ told → Stops (step line byte) piece on
+    → Stops line (byte ∷ piece) (stopOr told (startOf line) (step line byte) on)
+stops-by line byte piece nothing on e (heard, before, all) = (rw (add-one (on .taken), e) heard, go (on .taken) (on .taken + 1 - 1) (omega arith) before, λ silent. omega (arith, all silent))
+  where
+    go : (n m : ℕ) → m ≡ n → eventsOf (step line byte) (take (n - 1) piece) ≡ [] → eventsOf line (take m (byte ∷ piece)) ≡ []
+    go zero m is before = rw is
+    go (suc n) m is before =
+        let less : n ≡ suc n - 1 = omega arith in
+        rw (is, e) (ap (λ k. eventsOf (step line byte) (take k piece)) less ∙ before)
+stops-by line byte piece (event outcome size) on e h = (rw e, refl, λ silent. let z : _≡_ {A = ℕ} 0 1 = cc in absurd (omega arith))
+
+feed-stops : (line : Line) (piece : List ℕ) → Stops line piece (feedOf line piece)
+feed-stops line [] = (refl, refl, λ silent. refl)
+feed-stops line (byte ∷ piece) = stops-by line byte piece (toldBy (line .held) byte) (feedOf (step line byte) piece) refl (feed-stops (step line byte) piece)
+
+pub a-call-stops-after-the-first-event : ACallStopsAfterTheFirstEvent
+unfolding feedReader
+a-call-stops-after-the-first-event reader piece declared well =
+    let stops = feed-stops (lineOf reader) piece in
+    rw well
+    (record { heard = stops .0; none-before = stops .1; or-all = stops .2; reader = ap readerOf (taken-line (lineOf reader) piece) })
+
+pub an-empty-piece-gives-nothing : AnEmptyPieceGivesNothing
+unfolding feedReader
+an-empty-piece-gives-nothing reader declared well =
+    rw well (λ i. record { reader = reader-back reader well (declared .0) (declared .1) (declared .2) i; taken = 0; heard = Nothing })
+
+pub the-end-leaves-it-outside : TheEndLeavesItOutside
+unfolding endReader
+the-end-leaves-it-outside reader declared well = rw well (refl, omega (arith, declared .1), omega (arith, declared .2), omega (arith, declared .1))
