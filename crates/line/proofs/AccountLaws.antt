@@ -10,8 +10,9 @@ use lib.ListN.{length, length-append}
 use borrow.Author.Tests.{leb-true}
 use Rattle.refusals.specs.Refusals.{refused}
 use Rattle.telegram.specs.Reading.{readOf}
+use Rattle.ascii.specs.Control.{stx, etx}
 use Rattle.line.specs.declared.Heard.{Heard}
-use Rattle.line.specs.Line.{Line, Told, nothing, event, heldAfter, toldBy, strayBy, step, startOf, freshLine, freshReader, readerOf, toldByEnd, heardFor, feedReader, endReader}
+use Rattle.line.specs.Line.{places, longest, Line, Told, nothing, event, heldAfter, toldBy, strayBy, step, startOf, freshLine, freshReader, readerOf, toldByEnd, heardFor, feedReader, endReader}
 use Rattle.line.specs.Cuts.{tells, eventsOf, lineAfter, heardThen, feeding, bytesServed}
 use Rattle.line.specs.Account.{eventSize, lengthsOf, straysOf, sizesOf}
 use Rattle.line.specs.Sentences.{TheAccountHolds, TheAccountHoldsAfterTheEnd}
@@ -19,24 +20,24 @@ use Rattle.line.proofs.StaysGood.{Good, good-step, end-good}
 use Rattle.line.proofs.CutLaws.{good-fresh, good-after, feeding-splits, cut-anywhere}
 
 -- one byte
-begins : (stx : Bool) → 0 + 1 ≡ 0 + cond stx 0 1 + length (cond {A = List ℕ} stx (2 ∷ []) [])
+begins : (is-stx : Bool) → 0 + 1 ≡ 0 + cond is-stx 0 1 + length (cond {A = List ℕ} is-stx (stx ∷ []) [])
 begins true = refl
 begins false = refl
 
-goes-on : (held : List ℕ) (byte : ℕ) (etx stx full : Bool) → leb 24 (length held) ≡ full → length held ≤ 24
+goes-on : (held : List ℕ) (byte : ℕ) (is-etx is-stx is-full : Bool) → leb places (length held) ≡ is-full → length held ≤ places
     → length held + 1
-    ≡ eventSize (cond etx (event (readOf true (held ++ 3 ∷ [])) (length held + 1)) (cond stx (event (refused 9) (length held)) (cond full (event (refused 10) 25) nothing)))
+    ≡ eventSize (cond is-etx (event (readOf true (held ++ etx ∷ [])) (length held + 1)) (cond is-stx (event (refused 9) (length held)) (cond is-full (event (refused 10) longest) nothing)))
     + 0
-    + length (cond etx [] (cond stx (2 ∷ []) (cond full [] (held ++ byte ∷ []))))
-goes-on held byte true stx full e fits = omega arith
-goes-on held byte false true full e fits = omega arith
-goes-on held byte false false true e fits = omega (arith, leb-true 24 (length held) e)
+    + length (cond is-etx [] (cond is-stx (stx ∷ []) (cond is-full [] (held ++ byte ∷ []))))
+goes-on held byte true is-stx is-full e fits = omega arith
+goes-on held byte false true is-full e fits = omega arith
+goes-on held byte false false true e fits = omega (arith, leb-true places (length held) e)
 goes-on held byte false false false e fits = omega (arith, length-append held (byte ∷ []))
 
-pub byte-account : (held : List ℕ) (byte : ℕ) → length held ≤ 24
+pub byte-account : (held : List ℕ) (byte : ℕ) → length held ≤ places
     → length held + 1 ≡ eventSize (toldBy held byte) + strayBy held byte + length (heldAfter held byte)
-byte-account [] byte fits = begins (eqb byte 2)
-byte-account (first ∷ held) byte fits = goes-on (first ∷ held) byte (eqb byte 3) (eqb byte 2) (leb 24 (length (first ∷ held))) refl fits
+byte-account [] byte fits = begins (eqb byte stx)
+byte-account (first ∷ held) byte fits = goes-on (first ∷ held) byte (eqb byte etx) (eqb byte stx) (leb places (length (first ∷ held))) refl fits
 
 -- any bytes
 pub account : (line : Line) (bytes : List ℕ) → Good line

@@ -16,13 +16,14 @@ use Rattle.record.specs.Rule.{refusalOf}
 use Rattle.telegram.specs.Reading.{readOf}
 use Rattle.telegram.specs.Writing.{bodyBytes, telegramOf}
 use Rattle.telegram.proofs.BackAndForth.{written-reads-back}
+use Rattle.ascii.specs.Control.{stx, etx}
 use Rattle.line.specs.declared.Reader.{Reader}
 use Rattle.line.specs.declared.Heard.{Heard}
 use Rattle.line.specs.declared.Heard.the-variants.{Nothing, Event, Refused}
-use Rattle.line.specs.Line.{Line, answerFor, readerOf, freshLine, freshReader, endReader}
+use Rattle.line.specs.Line.{lineWith, Line, answerFor, readerOf, freshLine, freshReader, endReader}
 use Rattle.line.specs.Cuts.{eventsOf, lineAfter, Calls, Served, bytesServed, heardOf, readerBehind, AllUsedUp}
 use Rattle.line.specs.SentLine.{Sent, bytesSent, noStx, allGood, eventsSent, straySent}
-use Rattle.line.proofs.FeedLaws.{inside, outside}
+use Rattle.line.proofs.FeedLaws.{outside}
 use Rattle.line.proofs.ReaderLaws.{end-outside}
 use Rattle.line.proofs.Wraps.{reader-well}
 use Rattle.line.proofs.CutLaws.{events-join, after-join, Splitting, cut-anywhere, good-fresh}
@@ -42,30 +43,30 @@ module _ (rec : Record) (none : refusalOf rec ≡ 0) (fed stray : ℕ) where
   abbrev size : ℕ
   size = length body
 
-  ends : Gives (inside (2 ∷ body) (fed + 1 + size) stray) (3 ∷ []) (Event (answer.Good rec) (fed % 2 ^ 32) (suc (size + 1)) ∷ []) (outside (fed + 1 + size + 1) stray)
+  ends : Gives (lineWith (stx ∷ body) (fed + 1 + size) stray) (etx ∷ []) (Event (answer.Good rec) (fed % 2 ^ 32) (suc (size + 1)) ∷ []) (outside (fed + 1 + size + 1) stray)
   ends =
-      let judged : answerFor (readOf true ((2 ∷ body) ++ 3 ∷ [])) ≡ answer.Good rec = ap answerFor (written-reads-back rec none true) in
+      let judged : answerFor (readOf true ((stx ∷ body) ++ etx ∷ [])) ≡ answer.Good rec = ap answerFor (written-reads-back rec none true) in
       let fits = body-fits rec in
       let start : (fed + 1 + size + (2 ^ 32 - suc size)) % 2 ^ 32 ≡ fed % 2 ^ 32 = omega (arith, fits) in
       let count : suc size + 1 ≡ suc (size + 1) = omega arith in
       ((λ i. Event (judged i) (start i) (count i) ∷ []), λ i. outside (fed + 1 + size + 1) (add-zero stray i))
 
-  runs : Gives (inside (2 ∷ []) (fed + 1) stray) (body ++ 3 ∷ []) (Event (answer.Good rec) (fed % 2 ^ 32) (suc (size + 1)) ∷ []) (outside (fed + 1 + size + 1) stray)
+  runs : Gives (lineWith (stx ∷ []) (fed + 1) stray) (body ++ etx ∷ []) (Event (answer.Good rec) (fed % 2 ^ 32) (suc (size + 1)) ∷ []) (outside (fed + 1 + size + 1) stray)
   runs =
-      gives-join (inside (2 ∷ []) (fed + 1) stray) body (3 ∷ []) [] _ _ _
-      (plain-gives 2 [] (fed + 1) stray body (plain-body rec) (omega (arith, body-fits rec)))
+      gives-join (lineWith (stx ∷ []) (fed + 1) stray) body (etx ∷ []) [] _ _ _
+      (plain-gives stx [] (fed + 1) stray body (plain-body rec) (omega (arith, body-fits rec)))
       ends
 
   pub telegram-gives : Gives (outside fed stray) (telegramOf true rec)
       (Event (answer.Good rec) (fed % 2 ^ 32) (length (telegramOf true rec)) ∷ [])
       (outside (fed + length (telegramOf true rec)) stray)
   telegram-gives =
-      let count : suc (size + 1) ≡ suc (length (body ++ 3 ∷ [])) = omega (arith, length-append body (3 ∷ [])) in
-      let sum : fed + 1 + size + 1 ≡ fed + suc (length (body ++ 3 ∷ [])) = omega (arith, length-append body (3 ∷ [])) in (
-        ap (λ s. eventsOf (inside (2 ∷ []) (fed + 1) s) (body ++ 3 ∷ [])) (add-zero stray)
+      let count : suc (size + 1) ≡ suc (length (body ++ etx ∷ [])) = omega (arith, length-append body (etx ∷ [])) in
+      let sum : fed + 1 + size + 1 ≡ fed + suc (length (body ++ etx ∷ [])) = omega (arith, length-append body (etx ∷ [])) in (
+        ap (λ s. eventsOf (lineWith (stx ∷ []) (fed + 1) s) (body ++ etx ∷ [])) (add-zero stray)
             ∙ runs .0
             ∙ (λ i. Event (answer.Good rec) (fed % 2 ^ 32) (count i) ∷ []),
-        ap (λ s. lineAfter (inside (2 ∷ []) (fed + 1) s) (body ++ 3 ∷ [])) (add-zero stray)
+        ap (λ s. lineAfter (lineWith (stx ∷ []) (fed + 1) s) (body ++ etx ∷ [])) (add-zero stray)
             ∙ runs .1
             ∙ (λ i. outside (sum i) stray),
       )

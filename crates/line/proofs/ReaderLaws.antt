@@ -13,11 +13,11 @@ use Rattle.refusals.proofs.Laws.{both}
 use Rattle.record.specs.declared.RecordAnswer.the-variants as answer
 use Rattle.line.specs.declared.Reader.{Reader}
 use Rattle.line.specs.declared.Heard.the-variants.{Nothing, Event, Refused}
-use Rattle.line.specs.Line.{event, toldByEnd, startOf, readerOf, lineOf, isStarted, allZero, wellFormed, feedReader, endReader}
+use Rattle.line.specs.Line.{places, lineWith, readerWith, event, toldByEnd, startOf, readerOf, lineOf, isStarted, allZero, wellFormed, feedReader, endReader}
 use Rattle.line.proofs.Forms.{taken-length, padding}
 
 pub record Well (reader : Reader) : Type 0 where
-  pub fits : reader .len ≤ 24
+  pub fits : reader .len ≤ places
   pub started : isStarted (take (reader .len) (reader .held)) ≡ true
   pub padded : allZero (drop (reader .len) (reader .held)) ≡ true
   pub start : reader .start ≡ startOf (lineOf reader)
@@ -25,7 +25,7 @@ pub record Well (reader : Reader) : Type 0 where
 pub well : (reader : Reader) → wellFormed reader ≡ true → Well reader
 unfolding wellFormed
 well reader e =
-    let len-rest = both (leb (reader .len) 24) (isStarted (take (reader .len) (reader .held)) && (allZero (drop (reader .len) (reader .held)) && eqb (reader .start) (startOf (lineOf reader)))) e in
+    let len-rest = both (leb (reader .len) places) (isStarted (take (reader .len) (reader .held)) && (allZero (drop (reader .len) (reader .held)) && eqb (reader .start) (startOf (lineOf reader)))) e in
     let started-rest = both (isStarted (take (reader .len) (reader .held))) (allZero (drop (reader .len) (reader .held)) && eqb (reader .start) (startOf (lineOf reader))) (len-rest .1) in
     let zero-start = both (allZero (drop (reader .len) (reader .held))) (eqb (reader .start) (startOf (lineOf reader))) (started-rest .1) in
     record {
@@ -46,12 +46,12 @@ module _ (reader : Reader) where
   end-refused e = rw e
 
   pub end-outside : wellFormed reader ≡ true → reader .len ≡ 0
-      → endReader reader ≡ record { reader = readerOf (record { held = []; fed = reader .fed; stray = reader .stray }); heard = Nothing }
+      → endReader reader ≡ record { reader = readerOf (lineWith [] (reader .fed) (reader .stray)); heard = Nothing }
   unfolding endReader
   end-outside e none = rw (e, none)
 
-  pub end-inside : wellFormed reader ≡ true → length (reader .held) ≡ 24 → 0 < reader .len
-      → endReader reader ≡ record { reader = readerOf (record { held = []; fed = reader .fed; stray = reader .stray }); heard = Event (answer.Refused 11) (reader .start) (reader .len) }
+  pub end-inside : wellFormed reader ≡ true → length (reader .held) ≡ places → 0 < reader .len
+      → endReader reader ≡ record { reader = readerOf (lineWith [] (reader .fed) (reader .stray)); heard = Event (answer.Refused 11) (reader .start) (reader .len) }
   unfolding endReader
   end-inside e size some =
       let len = taken-length (reader .held) (reader .len) size in
@@ -65,7 +65,7 @@ module _ (reader : Reader) where
   feed-refused piece e = rw e
 
 -- a well-formed reader is the reader of its line
-module _ (reader : Reader) (good : wellFormed reader ≡ true) (size : length (reader .held) ≡ 24) (fed-fits : reader .fed < 2 ^ 32) (stray-fits : reader .stray < 2 ^ 32) where
+module _ (reader : Reader) (good : wellFormed reader ≡ true) (size : length (reader .held) ≡ places) (fed-fits : reader .fed < 2 ^ 32) (stray-fits : reader .stray < 2 ^ 32) where
   kept : Well reader
   kept = well reader good
 
@@ -74,17 +74,17 @@ module _ (reader : Reader) (good : wellFormed reader ≡ true) (size : length (r
 
   pub reader-back : readerOf (lineOf reader) ≡ reader
   reader-back =
-      let rest : drop (reader .len) (reader .held) ≡ replicate (24 - reader .len) 0 =
+      let rest : drop (reader .len) (reader .held) ≡ replicate (places - reader .len) 0 =
       ap (λ n. drop n (reader .held)) (sym (add-zero (reader .len)))
       ∙ padding (reader .held) (reader .len) 0 size (kept .padded)
-      ∙ ap (λ n. replicate (24 - n) 0) (add-zero (reader .len)) in
-      let held : take (reader .len) (reader .held) ++ replicate (24 - length (take (reader .len) (reader .held))) 0 ≡ reader .held =
-      ap (λ n. take (reader .len) (reader .held) ++ replicate (24 - n) 0) held-size
+      ∙ ap (λ n. replicate (places - n) 0) (add-zero (reader .len)) in
+      let held : take (reader .len) (reader .held) ++ replicate (places - length (take (reader .len) (reader .held))) 0 ≡ reader .held =
+      ap (λ n. take (reader .len) (reader .held) ++ replicate (places - n) 0) held-size
       ∙ ap (λ zeros. take (reader .len) (reader .held) ++ zeros) (sym rest)
       ∙ take-append-drop (reader .len) (reader .held) in
       let fed : reader .fed % 2 ^ 32 ≡ reader .fed = omega arith in
       let stray : reader .stray % 2 ^ 32 ≡ reader .stray = omega arith in
-      λ i. record { held = held i; len = held-size i; fed = fed i; stray = stray i; start = sym (kept .start) i }
+      λ i. readerWith (held i) (held-size i) (fed i) (stray i) (sym (kept .start) i)
 
-  pub outside-back : reader .len ≡ 0 → readerOf (record { held = []; fed = reader .fed; stray = reader .stray }) ≡ reader
-  outside-back none = (λ i. readerOf (record { held = take (sym none i) (reader .held); fed = reader .fed; stray = reader .stray })) ∙ reader-back
+  pub outside-back : reader .len ≡ 0 → readerOf (lineWith [] (reader .fed) (reader .stray)) ≡ reader
+  outside-back none = (λ i. readerOf (lineWith (take (sym none i) (reader .held)) (reader .fed) (reader .stray))) ∙ reader-back

@@ -9,28 +9,29 @@ use lib.Dec.{eqb}
 use lib.ListN.{length, take, drop, getD, drop-of-length-le}
 use lib.Seq.{drop-cons, take-nil}
 use borrow.Author.Tests.{eqb-true}
-use Rattle.line.specs.Line.{isPlain}
+use Rattle.ascii.specs.Control.{stx}
+use Rattle.line.specs.Line.{places, isPlain}
 use Rattle.line.specs.Runs.{strayRun, plainRun, roomyRun}
 
 module _ (piece : List ℕ) (at : ℕ) where
   pub stray-end : length piece ≤ at → strayRun (drop at piece) ≡ 0
   stray-end h = rw (drop-of-length-le piece h)
 
-  pub stray-byte : at < length piece → strayRun (drop at piece) ≡ cond (eqb (getD piece at 0) 2) 0 (suc (strayRun (drop (at + 1) piece)))
+  pub stray-byte : at < length piece → strayRun (drop at piece) ≡ cond (eqb (getD piece at 0) stx) 0 (suc (strayRun (drop (at + 1) piece)))
   stray-byte h = rw (drop-cons piece at 0 h, add-one)
 
   pub run-end : (end : ℕ) → length piece ≤ at → roomyRun end (drop at piece) ≡ 0
-  run-end end h = rw (drop-of-length-le piece h) (ap plainRun (take-nil (24 - end)))
+  run-end end h = rw (drop-of-length-le piece h) (ap plainRun (take-nil (places - end)))
 
-  pub run-byte : (end : ℕ) → end < 24 → at < length piece
+  pub run-byte : (end : ℕ) → end < places → at < length piece
       → roomyRun end (drop at piece) ≡ cond (isPlain (getD piece at 0)) (suc (roomyRun (end + 1) (drop (at + 1) piece))) 0
   run-byte end room h =
-      let one-less : 24 - end ≡ suc (24 - (end + 1)) = omega arith in
+      let one-less : places - end ≡ suc (places - (end + 1)) = omega arith in
       rw (drop-cons piece at 0 h, add-one at) (ap (λ n. plainRun (take n (getD piece at 0 ∷ drop (suc at) piece))) one-less)
 
-pub run-full : (piece : List ℕ) (end : ℕ) → 24 ≤ end → roomyRun end piece ≡ 0
+pub run-full : (piece : List ℕ) (end : ℕ) → places ≤ end → roomyRun end piece ≡ 0
 run-full piece end full =
-    let none : 24 - end ≡ 0 = omega arith in
+    let none : places - end ≡ 0 = omega arith in
     ap (λ n. plainRun (take n piece)) none
 
 -- a run is no longer than its room and its piece
@@ -61,12 +62,12 @@ run-ends (suc room) (byte ∷ piece) = ends-on (isPlain byte) (plainRun (take ro
 
 -- a run of stray bytes ends with the piece or at an STX
 abbrev pub StrayEnds : ℕ → List ℕ → Type 0
-StrayEnds n piece = (n ≤ length piece) × (n < length piece → getD piece n 0 ≡ 2)
+StrayEnds n piece = (n ≤ length piece) × (n < length piece → getD piece n 0 ≡ stx)
 
-stray-on : (t : Bool) (n byte : ℕ) (piece : List ℕ) → eqb byte 2 ≡ t → StrayEnds n piece → StrayEnds (cond t 0 (suc n)) (byte ∷ piece)
-stray-on true n byte piece e h = (omega arith, λ more. eqb-true byte 2 e)
+stray-on : (t : Bool) (n byte : ℕ) (piece : List ℕ) → eqb byte stx ≡ t → StrayEnds n piece → StrayEnds (cond t 0 (suc n)) (byte ∷ piece)
+stray-on true n byte piece e h = (omega arith, λ more. eqb-true byte stx e)
 stray-on false n byte piece e h = (omega (arith, h .0), λ more. h .1 (omega arith))
 
 pub stray-ends : (piece : List ℕ) → StrayEnds (strayRun piece) piece
 stray-ends [] = (omega arith, λ more. absurd (omega arith))
-stray-ends (byte ∷ piece) = stray-on (eqb byte 2) (strayRun piece) byte piece refl (stray-ends piece)
+stray-ends (byte ∷ piece) = stray-on (eqb byte stx) (strayRun piece) byte piece refl (stray-ends piece)

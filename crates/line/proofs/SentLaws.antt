@@ -2,7 +2,7 @@
 use mathlib.Core.Path.{_≡_, refl, sym, _∙_}
 use mathlib.Core.Bool.{Bool, true, false, cond, not}
 use mathlib.Core.List.{List, [], _∷_, _++_, map, append-nil, append-assoc}
-use Prim.Native.Nat.{ℕ, suc, _+_, _-_, _%_, _≤_}
+use Prim.Native.Nat.{ℕ, suc, _+_, _-_, _%_, _≤_, _<_}
 use native.Mathlib.Nat.{add-zero}
 use native.Mathlib.Omega.{arith}
 use lib.Dec.{eqb, ltb}
@@ -17,15 +17,16 @@ use Rattle.layouts.specs.Layouts.{placesOf, ownLayout}
 use Rattle.layouts.specs.Coding.{digitsOut}
 use Rattle.layouts.proofs.RowLaws.{row-sound, row-length}
 use Rattle.telegram.specs.Writing.{bodyBytes}
+use Rattle.ascii.specs.Control.{stx, etx}
 use Rattle.line.specs.declared.Heard.{Heard}
-use Rattle.line.specs.Line.{Line, isPlain, allPlain}
+use Rattle.line.specs.Line.{places, lineWith, Line, isPlain, allPlain}
 use Rattle.line.specs.Cuts.{eventsOf, lineAfter}
 use Rattle.line.specs.SentLine.{noStx}
-use Rattle.line.proofs.FeedLaws.{inside, outside}
+use Rattle.line.proofs.FeedLaws.{outside}
 
 -- characters are plain
 plain-above : (byte : ℕ) → 4 ≤ byte → isPlain byte ≡ true
-plain-above byte above = simp (ne-eqb byte 2 (λ e. absurd (omega arith)), ne-eqb byte 3 (λ e. absurd (omega arith)))
+plain-above byte above = simp (ne-eqb byte stx (λ e. absurd (omega arith)), ne-eqb byte etx (λ e. absurd (omega arith)))
 
 character-above : (t : Bool) (value : ℕ) → 4 ≤ cond t (value + 48) (value + 55)
 character-above true value = omega arith
@@ -50,7 +51,7 @@ pub plain-body : (rec : Record) → allPlain (bodyBytes rec) ≡ true
 unfolding bodyBytes render
 plain-body rec = plain-row (placesOf (ownLayout rec)) (digitsOut rec) (row-sound (ownLayout rec))
 
-pub body-fits : (rec : Record) → length (bodyBytes rec) ≤ 23
+pub body-fits : (rec : Record) → length (bodyBytes rec) < places
 unfolding bodyBytes
 body-fits rec = omega (arith, length-render (placesOf (ownLayout rec)) (digitsOut rec), row-length (ownLayout rec) .1)
 
@@ -61,20 +62,20 @@ Gives line bytes events after = (eventsOf line bytes ≡ events) × (lineAfter l
 pub strays-give : (fed stray : ℕ) (bytes : List ℕ) → noStx bytes ≡ true → Gives (outside fed stray) bytes [] (outside (fed + length bytes) (stray + length bytes))
 strays-give fed stray [] none = (refl, λ i. outside (sym (add-zero fed) i) (sym (add-zero stray) i))
 strays-give fed stray (byte ∷ bytes) none =
-    let parts = both (not (eqb byte 2)) (noStx bytes) none in
+    let parts = both (not (eqb byte stx)) (noStx bytes) none in
     let on = strays-give (fed + 1) (stray + 1) bytes (parts .1) in
     let f : fed + 1 + length bytes ≡ fed + suc (length bytes) = omega arith in
     let s : stray + 1 + length bytes ≡ stray + suc (length bytes) = omega arith in
-    rw (not-true (eqb byte 2) (parts .0)) (on .0, on .1 ∙ (λ i. outside (f i) (s i)))
+    rw (not-true (eqb byte stx) (parts .0)) (on .0, on .1 ∙ (λ i. outside (f i) (s i)))
 
 -- plain bytes inside
-pub plain-gives : (first : ℕ) (held : List ℕ) (fed stray : ℕ) (bytes : List ℕ) → allPlain bytes ≡ true → length (first ∷ held) + length bytes ≤ 24
-    → Gives (inside (first ∷ held) fed stray) bytes [] (inside ((first ∷ held) ++ bytes) (fed + length bytes) stray)
-plain-gives first held fed stray [] plain room = (refl, λ i. inside (sym (append-nil (first ∷ held)) i) (sym (add-zero fed) i) stray)
+pub plain-gives : (first : ℕ) (held : List ℕ) (fed stray : ℕ) (bytes : List ℕ) → allPlain bytes ≡ true → length (first ∷ held) + length bytes ≤ places
+    → Gives (lineWith (first ∷ held) fed stray) bytes [] (lineWith ((first ∷ held) ++ bytes) (fed + length bytes) stray)
+plain-gives first held fed stray [] plain room = (refl, λ i. lineWith (sym (append-nil (first ∷ held)) i) (sym (add-zero fed) i) stray)
 plain-gives first held fed stray (byte ∷ bytes) plain room =
     let parts = both (isPlain byte) (allPlain bytes) plain in
-    let apart = both (not (eqb byte 2)) (not (eqb byte 3)) (parts .0) in
+    let apart = both (not (eqb byte stx)) (not (eqb byte etx)) (parts .0) in
     let on = plain-gives first (held ++ byte ∷ []) (fed + 1) stray bytes (parts .1) (omega (arith, length-append held (byte ∷ []))) in
     let f : fed + 1 + length bytes ≡ fed + suc (length bytes) = omega arith in
-    rw (not-true (eqb byte 2) (apart .0), not-true (eqb byte 3) (apart .1), lt-leb 24 (length (first ∷ held)) (omega arith), add-zero stray)
-    (on .0, on .1 ∙ (λ i. inside (first ∷ append-assoc held (byte ∷ []) bytes i) (f i) stray))
+    rw (not-true (eqb byte stx) (apart .0), not-true (eqb byte etx) (apart .1), lt-leb places (length (first ∷ held)) (omega arith), add-zero stray)
+    (on .0, on .1 ∙ (λ i. lineWith (first ∷ append-assoc held (byte ∷ []) bytes i) (f i) stray))

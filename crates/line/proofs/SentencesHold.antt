@@ -9,7 +9,7 @@ use Rattle.line.specs.declared.Heard.{Heard}
 use Rattle.line.specs.declared.Heard.the-variants.{Nothing, Event}
 use Rattle.line.specs.Line.{Line, Told, nothing, event, Feeding, stopOr, feedOf, toldBy, step, startOf, readerOf, lineOf, freshLine, heardFor, fedFor, wellFormed, feedReader, endReader}
 use Rattle.line.specs.Cuts.{tells, eventsOf, lineAfter, heardThen}
-use Rattle.line.specs.Pieces.{passing}
+use Rattle.line.specs.Pieces.{room, passing}
 use Rattle.line.specs.Sentences.{AFreshOneHoldsNone, AGoodStateStaysGood, OneByteGivesAtMostOneEvent, StopsAfterTheFirstEvent, ACallStopsAfterTheFirstEvent, AnEmptyPieceGivesNothing, TheEndLeavesItOutside}
 use Rattle.line.proofs.ReaderLaws.{reader-back}
 use Rattle.line.proofs.StaysGood.{Good, good-line, reader-of-good, feed-stays-good, end-stays-good}
@@ -22,10 +22,10 @@ a-fresh-one-holds-none = (reader-of-good freshLine good-fresh, refl, refl, refl,
 pub a-good-state-stays-good : AGoodStateStaysGood
 a-good-state-stays-good reader piece declared well =
     let line = lineOf reader in
-    let split = passing-splits 32 line (good-line reader (declared .0) well) piece in
+    let split = passing-splits room line (good-line reader (declared .0) well) piece in
     let is = reader-back reader well (declared .0) (declared .1) (declared .2) in (
       feed-stays-good reader (declared .0) well piece,
-      ap (λ r. wellFormed (passing 32 r piece .reader)) (sym is) ∙ ap wellFormed (split .reader) ∙ reader-of-good (split .left) (split .good),
+      ap (λ r. wellFormed (passing room r piece .reader)) (sym is) ∙ ap wellFormed (split .reader) ∙ reader-of-good (split .left) (split .good),
       end-stays-good reader (declared .0) well,
     )
 

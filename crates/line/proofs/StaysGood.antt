@@ -7,8 +7,9 @@ use native.Mathlib.Omega.{arith}
 use lib.Dec.{eqb, leb}
 use lib.ListN.{length}
 use Rattle.refusals.proofs.Laws.{both}
+use Rattle.ascii.specs.Control.{stx, etx}
 use Rattle.line.specs.declared.Reader.{Reader}
-use Rattle.line.specs.Line.{Line, Told, nothing, event, Feeding, stopOr, feedOf, heldAfter, toldBy, step, startOf, ended, toldByEnd, readerOf, lineOf, isPlain, allPlain, isStarted, wellFormed, heardFor, fedFor, feedReader, endReader}
+use Rattle.line.specs.Line.{places, Line, Told, nothing, event, Feeding, stopOr, feedOf, heldAfter, toldBy, step, startOf, ended, toldByEnd, readerOf, lineOf, isPlain, allPlain, isStarted, wellFormed, heardFor, fedFor, feedReader, endReader}
 use Rattle.line.proofs.Forms.{taken-length}
 use Rattle.line.proofs.ReaderLaws.{well}
 use Rattle.line.proofs.Inside.{reader-wraps}
@@ -16,7 +17,7 @@ use Rattle.line.proofs.Wraps.{held-fits, held-back, reader-well, feed-r
 
 -- a line whose reader is well formed
 pub record Good (line : Line) : Type 0 where
-  pub fits : length (line .held) ≤ 24
+  pub fits : length (line .held) ≤ places
   pub started : isStarted (line .held) ≡ true
 
 plain-behind : (held : List ℕ) (byte : ℕ) → allPlain held ≡ true → isPlain byte ≡ true → allPlain (held ++ byte ∷ []) ≡ true
@@ -25,23 +26,23 @@ plain-behind (first ∷ held) byte h p =
     let parts = both (isPlain first) (allPlain held) h in
     rw (parts .0, plain-behind held byte (parts .1) p)
 
-begins : (stx : Bool) → isStarted (cond {A = List ℕ} stx (2 ∷ []) []) ≡ true
+begins : (is-stx : Bool) → isStarted (cond {A = List ℕ} is-stx (stx ∷ []) []) ≡ true
 begins true = refl
 begins false = refl
 
-goes-on : (first : ℕ) (held : List ℕ) (byte : ℕ) (etx stx full : Bool) → eqb byte 3 ≡ etx → eqb byte 2 ≡ stx → isStarted (first ∷ held) ≡ true
-    → isStarted (cond etx [] (cond stx (2 ∷ []) (cond full [] ((first ∷ held) ++ byte ∷ [])))) ≡ true
-goes-on first held byte true stx full e s h = refl
-goes-on first held byte false true full e s h = refl
+goes-on : (first : ℕ) (held : List ℕ) (byte : ℕ) (is-etx is-stx is-full : Bool) → eqb byte etx ≡ is-etx → eqb byte stx ≡ is-stx → isStarted (first ∷ held) ≡ true
+    → isStarted (cond is-etx [] (cond is-stx (stx ∷ []) (cond is-full [] ((first ∷ held) ++ byte ∷ [])))) ≡ true
+goes-on first held byte true is-stx is-full e s h = refl
+goes-on first held byte false true is-full e s h = refl
 goes-on first held byte false false true e s h = refl
 goes-on first held byte false false false e s h =
-    let parts = both (eqb first 2) (allPlain held) h in
+    let parts = both (eqb first stx) (allPlain held) h in
     let plain : isPlain byte ≡ true = simp (e, s) in
     rw (parts .0, plain-behind held byte (parts .1) plain)
 
 pub started-stays : (held : List ℕ) (byte : ℕ) → isStarted held ≡ true → isStarted (heldAfter held byte) ≡ true
-started-stays [] byte h = begins (eqb byte 2)
-started-stays (first ∷ held) byte h = goes-on first held byte (eqb byte 3) (eqb byte 2) (leb 24 (length (first ∷ held))) refl refl h
+started-stays [] byte h = begins (eqb byte stx)
+started-stays (first ∷ held) byte h = goes-on first held byte (eqb byte etx) (eqb byte stx) (leb places (length (first ∷ held))) refl refl h
 
 pub good-step : (line : Line) (byte : ℕ) → Good line → Good (step line byte)
 good-step line byte good = record { fits = held-fits (line .held) byte; started = started-stays (line .held) byte (good .started) }
@@ -71,7 +72,7 @@ end-good line good =
       heard = heardFor (toldByEnd (held-back (line .held) (line .fed) (line .stray) (good .fits) (good .started) i)) (startOf line);
     })
 
-module _ (reader : Reader) (size : length (reader .held) ≡ 24) (e : wellFormed reader ≡ true) where
+module _ (reader : Reader) (size : length (reader .held) ≡ places) (e : wellFormed reader ≡ true) where
   pub good-line : Good (lineOf reader)
   good-line =
       record { fits = omega (arith, taken-length (reader .held) (reader .len) size); started = well reader e .started }

@@ -7,12 +7,13 @@ use native.Mathlib.Numerals.{add-one}
 use native.Mathlib.Omega.{arith}
 use lib.ListN.{length, drop, drop-of-length-le}
 use lib.Seq.{drop-cons}
+use Rattle.ascii.specs.Control.{stx}
 use Rattle.line.specs.declared.Reader.{Reader}
 use Rattle.line.specs.declared.Fed.{Fed}
 use Rattle.line.specs.declared.Heard.the-variants.{Nothing}
-use Rattle.line.specs.Line.{feedOf, readerOf, fedFor, feedReader}
+use Rattle.line.specs.Line.{lineWith, feedOf, readerOf, fedFor, feedReader}
 use Rattle.line.specs.Runs.{strayRun}
-use Rattle.line.proofs.FeedLaws.{later, inside, outside, feed-stray, feed-start}
+use Rattle.line.proofs.FeedLaws.{later, outside, feed-stray, feed-start}
 use Rattle.line.proofs.RunLaws.{stray-ends}
 use Rattle.line.proofs.Inside.{reader-wraps}
 use Rattle.line.proofs.Wraps.{alike, feed-reader}
@@ -46,21 +47,21 @@ module _ (fed stray : ℕ) (piece : List ℕ) where
 
   -- an STX behind the stray bytes: what the rest gives, so many bytes later
   pub outside-starts : (n f s : ℕ) (rest : List ℕ) (on : Fed) → n ≡ skipped → n < length piece → f ≡ (fed + (n + 1)) % 2 ^ 32 → s ≡ (stray + n) % 2 ^ 32
-      → rest ≡ drop (n + 1) piece → on ≡ feedReader (readerOf (inside (2 ∷ []) f s)) rest
+      → rest ≡ drop (n + 1) piece → on ≡ feedReader (readerOf (lineWith (stx ∷ []) f s)) rest
       → record { reader = on .reader; taken = n + 1 + on .taken; heard = on .heard } ≡ feedReader (readerOf (outside fed stray)) piece
   outside-starts n f s rest on is-n more is-f is-s is-rest is-on =
       let open-more : skipped < length piece = omega (arith, is-n, more) in
-      let next : drop skipped piece ≡ 2 ∷ drop (suc skipped) piece =
+      let next : drop skipped piece ≡ stx ∷ drop (suc skipped) piece =
       drop-cons piece skipped 0 open-more ∙ ap (λ b. b ∷ drop (suc skipped) piece) (stray-ends piece .1 open-more) in
       let tail : rest ≡ drop (suc skipped) piece = is-rest ∙ ap (λ k. drop k piece) (add-one n ∙ ap suc is-n) in
       let fed-sum : fed + (n + 1) ≡ fed + skipped + 1 = omega (arith, is-n) in
       let fed-wraps = moved-so fed f (n + 1) (fed + skipped + 1) is-f fed-sum in
       let stray-wraps = moved-so stray s n (stray + skipped) is-s (ap (λ k. stray + k) is-n) in
-      let told : on ≡ fedFor (feedOf (inside (2 ∷ []) (fed + skipped + 1) (stray + skipped)) (drop (suc skipped) piece)) =
+      let told : on ≡ fedFor (feedOf (lineWith (stx ∷ []) (fed + skipped + 1) (stray + skipped)) (drop (suc skipped) piece)) =
       is-on
-      ∙ feed-reader (2 ∷ []) f s (omega arith) refl rest
-      ∙ alike (2 ∷ []) f (fed + skipped + 1) s (stray + skipped) rest (omega arith) fed-wraps stray-wraps
-      ∙ ap (λ bytes. fedFor (feedOf (inside (2 ∷ []) (fed + skipped + 1) (stray + skipped)) bytes)) tail in
+      ∙ feed-reader (stx ∷ []) f s (omega arith) refl rest
+      ∙ alike (stx ∷ []) f (fed + skipped + 1) s (stray + skipped) rest (omega arith) fed-wraps stray-wraps
+      ∙ ap (λ bytes. fedFor (feedOf (lineWith (stx ∷ []) (fed + skipped + 1) (stray + skipped)) bytes)) tail in
       let sum : (k : ℕ) → n + 1 + k ≡ k + 1 + skipped = λ k. omega (arith, is-n) in
       (λ i. record { reader = on .reader; taken = sum (on .taken) i; heard = on .heard })
       ∙ (λ i. record { reader = told i .reader; taken = told i .taken + 1 + skipped; heard = told i .heard })

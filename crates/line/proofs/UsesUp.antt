@@ -11,7 +11,7 @@ use Rattle.line.specs.declared.Heard.{Heard}
 use Rattle.line.specs.declared.Heard.the-variants.{Nothing, Event, Refused}
 use Rattle.line.specs.Line.{Line, Told, nothing, event, Feeding, stopOr, feedOf, toldBy, step, startOf, readerOf, heardFor, answerFor, feedReader}
 use Rattle.line.specs.Cuts.{lineAfter, Calls, calledFor, feeding}
-use Rattle.line.specs.Pieces.{Passing, passOn, passing, slotOf, passedFor, handedOn, usingUp}
+use Rattle.line.specs.Pieces.{room, Passing, passOn, passing, slotOf, passedFor, handedOn, usingUp}
 use Rattle.line.specs.Sentences.{UsingUpTellsTheLine, UsingUpIsSuchAFeeding}
 use Rattle.line.proofs.StaysGood.{Good, good-feed, feed-good}
 use Rattle.line.proofs.CutLaws.{Splits, Splitting, split-on, feed-splits, feeding-splits, some-by, after-join, takes-some as any-takes-some, uses-up-any-cut, tells-the-line, same-by-any-cut}
@@ -45,32 +45,32 @@ reads-by (event outcome size) at taken line next later piece here on =
     ∙ ap readerOf (sym (after-join line (take taken piece) (take (later .taken) (drop taken piece))))
     ∙ ap (λ bytes. readerOf (lineAfter line bytes)) (sym (take-add taken (later .taken) piece))
 
-pub reads-taken : (room : ℕ) (line : Line) → Good line → (piece : List ℕ)
-    → passing room (readerOf line) piece .reader ≡ readerOf (lineAfter line (take (passing room (readerOf line) piece .taken) piece))
+pub reads-taken : (more : ℕ) (line : Line) → Good line → (piece : List ℕ)
+    → passing more (readerOf line) piece .reader ≡ readerOf (lineAfter line (take (passing more (readerOf line) piece .taken) piece))
 unfolding passing
 reads-taken zero line good piece = refl
-reads-taken (suc room) line good piece =
+reads-taken (suc more) line good piece =
     let feeding = feedOf line piece in
     let rest = drop (feeding .taken) piece in
-    let on = reads-taken room (feeding .line) (good-feed line piece good) rest in
+    let on = reads-taken more (feeding .line) (good-feed line piece good) rest in
     let reader = readerOf (feeding .line) in
     rw (feed-good line good piece)
-    (reads-by (feeding .told) (feeding .at) (feeding .taken) line (feeding .line) (passing room reader rest) piece (taken-line line piece) on)
+    (reads-by (feeding .told) (feeding .at) (feeding .taken) line (feeding .line) (passing more reader rest) piece (taken-line line piece) on)
 
 takes-by : (heard : Heard) (fed : Fed) (later : Passing) → fed .taken ≤ passOn heard fed later .taken
 takes-by Nothing fed later = omega arith
 takes-by (Event answer start size) fed later = omega arith
 takes-by (Refused number) fed later = omega arith
 
-pub takes-some : (room : ℕ) (line : Line) → Good line → (piece : List ℕ) → 0 < length piece → 0 < passing (suc room) (readerOf line) piece .taken
+pub takes-some : (more : ℕ) (line : Line) → Good line → (piece : List ℕ) → 0 < length piece → 0 < passing (suc more) (readerOf line) piece .taken
 unfolding passing
-takes-some room line good [] some = absurd (omega arith)
-takes-some room line good (byte ∷ piece) some =
+takes-some more line good [] some = absurd (omega arith)
+takes-some more line good (byte ∷ piece) some =
     let fed = feedReader (readerOf line) (byte ∷ piece) in
     let same = ap (λ f. f .taken) (feed-good line good (byte ∷ piece)) in
     omega (
       arith,
-      takes-by (fed .heard) fed (passing room (fed .reader) (drop (fed .taken) (byte ∷ piece))),
+      takes-by (fed .heard) fed (passing more (fed .reader) (drop (fed .taken) (byte ∷ piece))),
       same,
       some-by (toldBy (line .held) byte) (startOf line) (step line byte) (feedOf (step line byte) piece),
     )
@@ -89,14 +89,14 @@ pass-by {line} {piece} (event outcome size) at taken next later here on =
     (drop-drop (later .taken) taken piece)
     (split-on (calledFor (record { reader = readerOf next; taken = taken; heard = heardFor (event outcome size) at }) piece) (after-passing later (drop taken piece)) here on)
 
-pub passing-splits : (room : ℕ) (line : Line) → Good line → (piece : List ℕ) → Splits line piece (after-passing (passing room (readerOf line) piece) piece)
+pub passing-splits : (more : ℕ) (line : Line) → Good line → (piece : List ℕ) → Splits line piece (after-passing (passing more (readerOf line) piece) piece)
 unfolding passing
 passing-splits zero line good piece = record { left = line; good = good; reader = refl; events = refl; after = refl }
-passing-splits (suc room) line good piece =
+passing-splits (suc more) line good piece =
     let feeding = feedOf line piece in
-    let on = passing-splits room (feeding .line) (good-feed line piece good) (drop (feeding .taken) piece) in
-    subst⁻¹ (λ fed. Splits line piece (after-passing (passOn (fed .heard) fed (passing room (fed .reader) (drop (fed .taken) piece))) piece)) (feed-good line good piece)
-    (pass-by (feeding .told) (feeding .at) (feeding .taken) (feeding .line) (passing room (readerOf (feeding .line)) (drop (feeding .taken) piece)) (feed-splits line good piece) on)
+    let on = passing-splits more (feeding .line) (good-feed line piece good) (drop (feeding .taken) piece) in
+    subst⁻¹ (λ fed. Splits line piece (after-passing (passOn (fed .heard) fed (passing more (fed .reader) (drop (fed .taken) piece))) piece)) (feed-good line good piece)
+    (pass-by (feeding .told) (feeding .at) (feeding .taken) (feeding .line) (passing more (readerOf (feeding .line)) (drop (feeding .taken) piece)) (feed-splits line good piece) on)
 
 -- the slots that are counted hold the events
 heard-back : (events : List Heard) → map (λ slot. slot .heard) (map slotOf events) ≡ events
@@ -105,9 +105,9 @@ heard-back (heard ∷ events) = ap (_∷_ heard) (heard-back events)
 
 pub handed-on : (passing : Passing) → handedOn (passedFor passing) ≡ passing .events
 handed-on passing =
-    let slots = map slotOf (passing .events) ++ replicate (32 - length (passing .events)) (slotOf Nothing) in
+    let slots = map slotOf (passing .events) ++ replicate (room - length (passing .events)) (slotOf Nothing) in
     ap (λ n. map (λ slot. slot .heard) (take n slots)) (sym (length-map (passing .events) slotOf))
-    ∙ ap (map (λ slot. slot .heard)) (take-append-seam (map slotOf (passing .events)) (replicate (32 - length (passing .events)) (slotOf Nothing)))
+    ∙ ap (map (λ slot. slot .heard)) (take-append-seam (map slotOf (passing .events)) (replicate (room - length (passing .events)) (slotOf Nothing)))
     ∙ heard-back (passing .events)
 
 less-by : (taken : ℕ) (piece : List ℕ) (n : ℕ) → (0 < length piece → 0 < taken) → length piece ≤ suc n → length (drop taken piece) ≤ n
@@ -118,9 +118,9 @@ pub using-up-splits : Splitting usingUp
 using-up-splits =
     record {
       splits = λ line good piece.
-          let passed = passing 32 (readerOf line) piece in
-          subst⁻¹ (λ heard. Splits line piece (record { reader = passed .reader; rest = drop (passed .taken) piece; heard = heard })) (handed-on passed) (passing-splits 32 line good piece);
-      less = λ line good piece n h. less-by (passing 32 (readerOf line) piece .taken) piece n (takes-some 31 line good piece) h;
+          let passed = passing room (readerOf line) piece in
+          subst⁻¹ (λ heard. Splits line piece (record { reader = passed .reader; rest = drop (passed .taken) piece; heard = heard })) (handed-on passed) (passing-splits room line good piece);
+      less = λ line good piece n h. less-by (passing room (readerOf line) piece .taken) piece n (takes-some (room - 1) line good piece) h;
     }
 
 pub using-up-tells-the-line : UsingUpTellsTheLine

@@ -8,30 +8,30 @@ use lib.Dec.{eqb, leb}
 use lib.ListN.{length, take, drop, replicate, length-append}
 use lib.Seq.{take-append-seam, drop-append-seam}
 use borrow.Author.Tests.{eq-eqb, le-leb, leb-false}
+use Rattle.ascii.specs.Control.{stx, etx}
 use Rattle.line.specs.declared.Heard.the-variants.{Nothing, Event}
-use Rattle.line.specs.Line.{answerFor, Line, Told, nothing, event, Feeding, stopOr, feedOf, heldAfter, toldBy, strayBy, step, startOf, readerOf, lineOf, isStarted, allZero, wellFormed, fedFor, feedReader}
-use Rattle.line.proofs.FeedLaws.{inside}
+use Rattle.line.specs.Line.{places, lineWith, answerFor, Line, Told, nothing, event, Feeding, stopOr, feedOf, heldAfter, toldBy, strayBy, step, startOf, readerOf, lineOf, isStarted, allZero, wellFormed, fedFor, feedReader}
 use Rattle.line.proofs.Inside.{reader-wraps}
 
--- no byte makes a reader hold more than 24
-fits-by : (held : List ℕ) (byte : ℕ) (etx stx full : Bool) → leb 24 (length held) ≡ full
-    → length (cond etx [] (cond stx (2 ∷ []) (cond full [] (held ++ byte ∷ [])))) ≤ 24
-fits-by held byte true stx full e = omega arith
-fits-by held byte false true full e = omega arith
+-- no byte makes a reader hold more than there are places
+fits-by : (held : List ℕ) (byte : ℕ) (is-etx is-stx is-full : Bool) → leb places (length held) ≡ is-full
+    → length (cond is-etx [] (cond is-stx (stx ∷ []) (cond is-full [] (held ++ byte ∷ [])))) ≤ places
+fits-by held byte true is-stx is-full e = omega arith
+fits-by held byte false true is-full e = omega arith
 fits-by held byte false false true e = omega arith
-fits-by held byte false false false e = omega (arith, length-append held (byte ∷ []), leb-false 24 (length held) e)
+fits-by held byte false false false e = omega (arith, length-append held (byte ∷ []), leb-false places (length held) e)
 
-begins-by : (stx : Bool) → length (cond {A = List ℕ} stx (2 ∷ []) []) ≤ 24
+begins-by : (is-stx : Bool) → length (cond {A = List ℕ} is-stx (stx ∷ []) []) ≤ places
 begins-by true = omega arith
 begins-by false = omega arith
 
-pub held-fits : (held : List ℕ) (byte : ℕ) → length (heldAfter held byte) ≤ 24
-held-fits [] byte = begins-by (eqb byte 2)
-held-fits (first ∷ held) byte = fits-by (first ∷ held) byte (eqb byte 3) (eqb byte 2) (leb 24 (length (first ∷ held))) refl
+pub held-fits : (held : List ℕ) (byte : ℕ) → length (heldAfter held byte) ≤ places
+held-fits [] byte = begins-by (eqb byte stx)
+held-fits (first ∷ held) byte = fits-by (first ∷ held) byte (eqb byte etx) (eqb byte stx) (leb places (length (first ∷ held))) refl
 
 -- feeding says the same of two lines whose counts wrap alike
 abbrev pub Alike : List ℕ → ℕ → ℕ → ℕ → ℕ → List ℕ → Type 0
-Alike held fed fed' stray stray' piece = fedFor (feedOf (inside held fed stray) piece) ≡ fedFor (feedOf (inside held fed' stray') piece)
+Alike held fed fed' stray stray' piece = fedFor (feedOf (lineWith held fed stray) piece) ≡ fedFor (feedOf (lineWith held fed' stray') piece)
 
 alike-by : (told : Told) (start start' : ℕ) (next next' : Line) (on on' : Feeding) → start ≡ start' → readerOf next ≡ readerOf next' → fedFor on ≡ fedFor on'
     → fedFor (stopOr told start next on) ≡ fedFor (stopOr told start' next' on')
@@ -39,7 +39,7 @@ alike-by nothing start start' next next' on on' s n o = λ i. record { reader = 
 alike-by (event outcome size) start start' next next' on on' s n o =
     λ i. record { reader = n i; taken = 1; heard = Event (answerFor outcome) (s i) size }
 
-pub alike : (held : List ℕ) (fed fed' stray stray' : ℕ) (piece : List ℕ) → length held ≤ 24 → fed % 2 ^ 32 ≡ fed' % 2 ^ 32 → stray % 2 ^ 32 ≡ stray' % 2 ^ 32
+pub alike : (held : List ℕ) (fed fed' stray stray' : ℕ) (piece : List ℕ) → length held ≤ places → fed % 2 ^ 32 ≡ fed' % 2 ^ 32 → stray % 2 ^ 32 ≡ stray' % 2 ^ 32
     → Alike held fed fed' stray stray' piece
 alike held fed fed' stray stray' [] fits f s = λ i. record { reader = reader-wraps held fed fed' stray stray' fits f s i; taken = 0; heard = Nothing }
 alike held fed fed' stray stray' (byte ∷ piece) fits f s =
@@ -58,28 +58,28 @@ zeros-are (suc n) = zeros-are n
 all-hold : {a b c d : Bool} → a ≡ true → b ≡ true → c ≡ true → d ≡ true → (a && (b && (c && d))) ≡ true
 all-hold p q r s = rw (p, q, r, s)
 
-module _ (held : List ℕ) (fed stray : ℕ) (fits : length held ≤ 24) (started : isStarted held ≡ true) where
-  pub held-back : take (length held) (held ++ replicate (24 - length held) 0) ≡ held
-  held-back = take-append-seam held (replicate (24 - length held) 0)
+module _ (held : List ℕ) (fed stray : ℕ) (fits : length held ≤ places) (started : isStarted held ≡ true) where
+  pub held-back : take (length held) (held ++ replicate (places - length held) 0) ≡ held
+  held-back = take-append-seam held (replicate (places - length held) 0)
 
-  rest-back : drop (length held) (held ++ replicate (24 - length held) 0) ≡ replicate (24 - length held) 0
-  rest-back = drop-append-seam held (replicate (24 - length held) 0)
+  rest-back : drop (length held) (held ++ replicate (places - length held) 0) ≡ replicate (places - length held) 0
+  rest-back = drop-append-seam held (replicate (places - length held) 0)
 
-  start-back : (fed + (2 ^ 32 - length held)) % 2 ^ 32 ≡ startOf (lineOf (readerOf (inside held fed stray)))
+  start-back : (fed + (2 ^ 32 - length held)) % 2 ^ 32 ≡ startOf (lineOf (readerOf (lineWith held fed stray)))
   start-back =
       let wraps : (fed + (2 ^ 32 - length held)) % 2 ^ 32 ≡ (fed % 2 ^ 32 + (2 ^ 32 - length held)) % 2 ^ 32 = omega arith in
       wraps ∙ ap (λ bytes. (fed % 2 ^ 32 + (2 ^ 32 - length bytes)) % 2 ^ 32) (sym held-back)
 
-  pub reader-well : wellFormed (readerOf (inside held fed stray)) ≡ true
+  pub reader-well : wellFormed (readerOf (lineWith held fed stray)) ≡ true
   unfolding wellFormed
   reader-well =
-      all-hold (le-leb (length held) 24 fits) (ap isStarted held-back ∙ started) (ap allZero rest-back ∙ zeros-are (24 - length held)) (eq-eqb _ _ start-back)
+      all-hold (le-leb (length held) places fits) (ap isStarted held-back ∙ started) (ap allZero rest-back ∙ zeros-are (places - length held)) (eq-eqb _ _ start-back)
 
-  pub feed-reader : (piece : List ℕ) → feedReader (readerOf (inside held fed stray)) piece ≡ fedFor (feedOf (inside held fed stray) piece)
+  pub feed-reader : (piece : List ℕ) → feedReader (readerOf (lineWith held fed stray)) piece ≡ fedFor (feedOf (lineWith held fed stray) piece)
   unfolding feedReader
   feed-reader piece =
       rw reader-well
-      ((λ i. fedFor (feedOf (inside (held-back i) (fed % 2 ^ 32) (stray % 2 ^ 32)) piece))
+      ((λ i. fedFor (feedOf (lineWith (held-back i) (fed % 2 ^ 32) (stray % 2 ^ 32)) piece))
       ∙ alike held (fed % 2 ^ 32) fed (stray % 2 ^ 32) stray piece fits (omega arith) (omega arith))
 
 -- no more is taken than there is

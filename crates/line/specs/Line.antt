@@ -10,17 +10,32 @@ use Rattle.record.specs.declared.Record.{Record}
 use Rattle.record.specs.declared.RecordAnswer.{RecordAnswer}
 use Rattle.record.specs.declared.RecordAnswer.the-variants as answer
 use Rattle.telegram.specs.Reading.{readOf}
+use Rattle.ascii.specs.Control.{stx, etx}
 use Rattle.line.specs.declared.Reader.{Reader}
 use Rattle.line.specs.declared.Heard.{Heard}
 use Rattle.line.specs.declared.Heard.the-variants.{Nothing, Event, Refused}
 use Rattle.line.specs.declared.Fed.{Fed}
 use Rattle.line.specs.declared.Ended.{Ended}
 
--- what a reader's state means: the bytes held, and two counts that know no end
+-- "the reader holds 0 to 24 bytes", and a telegram with one byte more is too long
+abbrev pub places : ℕ
+places = 24
+
+abbrev pub longest : ℕ
+longest = places + 1
+
+-- what a reader's state means: the bytes held, and two counts that know no end. Lines and readers are made by `lineWith` and
+-- `readerWith` alone
 pub record Line : Type 0 where
   pub held : List ℕ
   pub fed : ℕ
   pub stray : ℕ
+
+abbrev pub lineWith : List ℕ → ℕ → ℕ → Line
+lineWith held fed stray = record { held = held; fed = fed; stray = stray }
+
+abbrev pub readerWith : List ℕ → ℕ → ℕ → ℕ → ℕ → Reader
+readerWith held len fed stray start = record { held = held; len = len; fed = fed; stray = stray; start = start }
 
 -- what one byte tells: nothing, or an event with its length
 pub data Told : Type 0 where
@@ -31,26 +46,25 @@ pub data Told : Type 0 where
 -- the bytes held and begins a new telegram with itself. Any other byte is held, but if 24 are already held it gives 10, belongs to
 -- the refused telegram (25 bytes), and the reader is outside"
 abbrev pub heldAfter : List ℕ → ℕ → List ℕ
-heldAfter [] byte = cond (eqb byte 2) (2 ∷ []) []
+heldAfter [] byte = cond (eqb byte stx) (stx ∷ []) []
 heldAfter (first ∷ held) byte =
-    cond (eqb byte 3) []
-    (cond (eqb byte 2) (2 ∷ [])
-    (cond (leb 24 (length (first ∷ held))) [] ((first ∷ held) ++ byte ∷ [])))
+    cond (eqb byte etx) []
+    (cond (eqb byte stx) (stx ∷ [])
+    (cond (leb places (length (first ∷ held))) [] ((first ∷ held) ++ byte ∷ [])))
 
 abbrev pub toldBy : List ℕ → ℕ → Told
 toldBy [] byte = nothing
 toldBy (first ∷ held) byte =
-    cond (eqb byte 3) (event (readOf true ((first ∷ held) ++ 3 ∷ [])) (length (first ∷ held) + 1))
-    (cond (eqb byte 2) (event (refused 9) (length (first ∷ held)))
-    (cond (leb 24 (length (first ∷ held))) (event (refused 10) 25) nothing))
+    cond (eqb byte etx) (event (readOf true ((first ∷ held) ++ etx ∷ [])) (length (first ∷ held) + 1))
+    (cond (eqb byte stx) (event (refused 9) (length (first ∷ held)))
+    (cond (leb places (length (first ∷ held))) (event (refused 10) longest) nothing))
 
 abbrev pub strayBy : List ℕ → ℕ → ℕ
-strayBy [] byte = cond (eqb byte 2) 0 1
+strayBy [] byte = cond (eqb byte stx) 0 1
 strayBy (first ∷ held) byte = 0
 
 abbrev pub step : Line → ℕ → Line
-step line byte =
-    record { held = heldAfter (line .held) byte; fed = line .fed + 1; stray = line .stray + strayBy (line .held) byte }
+step line byte = lineWith (heldAfter (line .held) byte) (line .fed + 1) (line .stray + strayBy (line .held) byte)
 
 -- "the start position is fed less held, with the wrap"
 abbrev pub startOf : Line → ℕ
@@ -75,7 +89,7 @@ feedOf line (byte ∷ piece) = stopOr (toldBy (line .held) byte) (startOf line) 
 -- "the end of the line is its own call: 11 for the bytes held if any, else nothing; the state after it is outside, with fed and
 -- stray kept"
 abbrev pub ended : Line → Line
-ended line = record { held = []; fed = line .fed; stray = line .stray }
+ended line = lineWith [] (line .fed) (line .stray)
 
 abbrev pub toldByEnd : List ℕ → Told
 toldByEnd [] = nothing
@@ -84,28 +98,22 @@ toldByEnd (first ∷ held) = event (refused 11) (length (first ∷ held))
 -- a reader for what it means; its counts "wrap at 4,294,967,296"
 abbrev pub readerOf : Line → Reader
 readerOf line =
-    record {
-      held = line .held ++ replicate (24 - length (line .held)) 0;
-      len = length (line .held);
-      fed = line .fed % 2 ^ 32;
-      stray = line .stray % 2 ^ 32;
-      start = startOf line;
-    }
+    readerWith (line .held ++ replicate (places - length (line .held)) 0) (length (line .held)) (line .fed % 2 ^ 32) (line .stray % 2 ^ 32) (startOf line)
 
 abbrev pub lineOf : Reader → Line
-lineOf reader = record { held = take (reader .len) (reader .held); fed = reader .fed; stray = reader .stray }
+lineOf reader = lineWith (take (reader .len) (reader .held)) (reader .fed) (reader .stray)
 
 -- "a fresh one holds none and all its counts are 0"
 abbrev pub freshLine : Line
-freshLine = record { held = []; fed = 0; stray = 0 }
+freshLine = lineWith [] 0 0
 
 abbrev pub freshReader : Reader
-freshReader = record { held = replicate 24 0; len = 0; fed = 0; stray = 0; start = 0 }
+freshReader = readerWith (replicate places 0) 0 0 0 0
 
 -- "at most 24 held; if any, the first is STX and no other is STX or ETX; places beyond the held ones are zero; the start position is
 -- fed less held, with the wrap"
 abbrev pub isPlain : ℕ → Bool
-isPlain byte = not (eqb byte 2) && not (eqb byte 3)
+isPlain byte = not (eqb byte stx) && not (eqb byte etx)
 
 abbrev pub allPlain : List ℕ → Bool
 allPlain [] = true
@@ -113,21 +121,24 @@ allPlain (byte ∷ bytes) = isPlain byte && allPlain bytes
 
 abbrev pub isStarted : List ℕ → Bool
 isStarted [] = true
-isStarted (first ∷ held) = eqb first 2 && allPlain held
+isStarted (first ∷ held) = eqb first stx && allPlain held
 
 abbrev pub allZero : List ℕ → Bool
 allZero [] = true
 allZero (byte ∷ bytes) = eqb byte 0 && allZero bytes
 
-unfoldable pub wellFormed : Reader → Bool
-wellFormed reader =
-    leb (reader .len) 24
+abbrev pub wellFormedAt : ℕ → Reader → Bool
+wellFormedAt bound reader =
+    leb (reader .len) bound
     && (isStarted (take (reader .len) (reader .held))
     && (allZero (drop (reader .len) (reader .held)) && eqb (reader .start) (startOf (lineOf reader))))
 
--- what a reader's declaration says already: an array of 24 places, and counts of 32 bits
+unfoldable pub wellFormed : Reader → Bool
+wellFormed = wellFormedAt places
+
+-- what a reader's declaration says already: an array of so many places, and counts of 32 bits
 abbrev pub AsDeclared : Reader → Type 0
-AsDeclared reader = (length (reader .held) ≡ 24) × (reader .fed < 2 ^ 32) × (reader .stray < 2 ^ 32)
+AsDeclared reader = (length (reader .held) ≡ places) × (reader .fed < 2 ^ 32) × (reader .stray < 2 ^ 32)
 
 -- what is handed out: for each case the paper's number and values. 15 is no event
 abbrev pub answerFor : Outcome Record → RecordAnswer

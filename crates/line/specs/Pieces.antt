@@ -11,6 +11,10 @@ use Rattle.line.specs.declared.pieces.Passed.{Passed}
 use Rattle.line.specs.Line.{feedReader}
 use Rattle.line.specs.Cuts.{Calls}
 
+-- how many events one call of `use_up` has room for
+abbrev pub room : ℕ
+room = 32
+
 -- what a piece gives: the events in their order, how many bytes were taken, the reader after them, and 15 or no refusal
 pub record Passing : Type 0 where
   pub events : List Heard
@@ -28,16 +32,16 @@ passOn (Refused number) fed later = record { events = []; taken = fed .taken; re
 -- a piece with room for so many events
 unfoldable pub passing : ℕ → Reader → List ℕ → Passing
 passing zero reader piece = record { events = []; taken = 0; reader = reader; refusal = 0 }
-passing (suc room) reader piece =
+passing (suc more) reader piece =
     passOn (feedReader reader piece .heard) (feedReader reader piece)
-    (passing room (feedReader reader piece .reader) (drop (feedReader reader piece .taken) piece))
+    (passing more (feedReader reader piece .reader) (drop (feedReader reader piece .taken) piece))
 
 -- the events handed on, and nothing in the slots behind them
 abbrev pub slotOf : Heard → Slot
 slotOf heard = record { heard = heard }
 
 abbrev pub slotsFor : List Heard → List Slot
-slotsFor events = map slotOf events ++ replicate (32 - length events) (slotOf Nothing)
+slotsFor events = map slotOf events ++ replicate (room - length events) (slotOf Nothing)
 
 abbrev pub passedFor : Passing → Passed
 passedFor passing =
@@ -51,4 +55,4 @@ abbrev pub usedFor : Passed → List ℕ → Calls
 usedFor passed piece = record { reader = passed .reader; rest = drop (passed .taken) piece; heard = handedOn passed }
 
 abbrev pub usingUp : Reader → List ℕ → Calls
-usingUp reader piece = usedFor (passedFor (passing 32 reader piece)) piece
+usingUp reader piece = usedFor (passedFor (passing room reader piece)) piece

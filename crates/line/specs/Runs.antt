@@ -4,18 +4,19 @@ use mathlib.Core.List.{List, [], _∷_}
 use Prim.Native.Nat.{ℕ, suc, _-_}
 use lib.Dec.{eqb}
 use lib.ListN.{take}
-use Rattle.line.specs.Line.{isPlain}
+use Rattle.ascii.specs.Control.{stx}
+use Rattle.line.specs.Line.{places, isPlain}
 
 -- how many bytes stand before the first STX
 abbrev pub strayRun : List ℕ → ℕ
 strayRun [] = 0
-strayRun (byte ∷ piece) = cond (eqb byte 2) 0 (suc (strayRun piece))
+strayRun (byte ∷ piece) = cond (eqb byte stx) 0 (suc (strayRun piece))
 
 -- how many bytes stand before the first STX or ETX
 abbrev pub plainRun : List ℕ → ℕ
 plainRun [] = 0
 plainRun (byte ∷ piece) = cond (isPlain byte) (suc (plainRun piece)) 0
 
--- as many of them as there is room for behind `len` of 24
+-- as many of them as there are places for behind `len`
 abbrev pub roomyRun : ℕ → List ℕ → ℕ
-roomyRun len piece = plainRun (take (24 - len) piece)
+roomyRun len piece = plainRun (take (places - len) piece)

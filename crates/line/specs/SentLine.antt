@@ -8,6 +8,7 @@ use Rattle.record.specs.declared.Record.{Record}
 use Rattle.record.specs.declared.RecordAnswer.the-variants as answer
 use Rattle.record.specs.Rule.{refusalOf}
 use Rattle.telegram.specs.Writing.{telegramOf}
+use Rattle.ascii.specs.Control.{stx}
 use Rattle.line.specs.declared.Heard.{Heard}
 use Rattle.line.specs.declared.Heard.the-variants.{Event}
 
@@ -24,7 +25,7 @@ bytesSent (sent ∷ others) behind = sent .before ++ (telegramOf true (sent .rec
 -- "any bytes but STX before, between and after"; good records
 abbrev pub noStx : List ℕ → Bool
 noStx [] = true
-noStx (byte ∷ bytes) = not (eqb byte 2) && noStx bytes
+noStx (byte ∷ bytes) = not (eqb byte stx) && noStx bytes
 
 abbrev pub allGood : List Sent → List ℕ → Bool
 allGood [] behind = noStx behind

@@ -9,7 +9,7 @@ use Rattle.line.specs.declared.Fed.{Fed}
 use Rattle.line.specs.declared.Heard.the-variants.{Nothing}
 use Rattle.line.specs.Line.{Line, readerOf, lineOf, freshLine, freshReader, wellFormed, AsDeclared, feedReader, endReader}
 use Rattle.line.specs.Cuts.{eventsOf, lineAfter, Calls, heardThen, feeding, Served, bytesServed, heardOf, readerBehind, AllUsedUp, serve, heardFrom, readerAfter, UsedUp}
-use Rattle.line.specs.Pieces.{passing, usingUp}
+use Rattle.line.specs.Pieces.{room, passing, usingUp}
 use Rattle.line.specs.Account.{sizesOf, lengthsOf, straysOf}
 
 -- "a fresh one holds none and all its counts are 0"
@@ -22,7 +22,7 @@ abbrev pub AGoodStateStaysGood : Type 0
 AGoodStateStaysGood =
     (reader : Reader) (piece : List ℕ) → AsDeclared reader → wellFormed reader ≡ true
     → (wellFormed (feedReader reader piece .reader) ≡ true)
-    × (wellFormed (passing 32 reader piece .reader) ≡ true)
+    × (wellFormed (passing room reader piece .reader) ≡ true)
     × (wellFormed (endReader reader .reader) ≡ true)
 
 -- "so one byte gives at most one event"

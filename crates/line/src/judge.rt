@@ -1,4 +1,5 @@
 // Judging the bytes held when ETX comes.
+use super::PLACES;
 use record::RecordAnswer;
 use telegram::ETX;
 ghost use mathlib.Core.Path.{_≡_};
@@ -8,22 +9,24 @@ ghost use Prim.Native.Nat.{min};
 ghost use lib.ListN.{take};
 ghost use Rattle.record.specs.Answers.{recordAnswer};
 ghost use Rattle.telegram.specs.Reading.{readOf};
+ghost use Rattle.ascii.specs.Control.{etx};
+ghost use Rattle.line.specs.Line.{places};
 
 fn capped(len: usize) -> usize
-    ensures { λ r. ⌜ r ≡ min len 24 ⌝ }
+    ensures { λ r. ⌜ r ≡ min len places ⌝ }
 {
-    if len < 24 {
+    if len < PLACES {
         return len;
     }
-    24
+    PLACES
 }
 
 // Reads the first `len` bytes held, with ETX behind them.
-pub fn judge(held: [u8; 24], len: usize) -> RecordAnswer
-    ensures { λ r. ⌜ recordAnswer r ≡ readOf true (take len held ++ 3 ∷ []) ⌝ }
+pub(crate) fn judge(held: [u8; PLACES], len: usize) -> RecordAnswer
+    ensures { λ r. ⌜ recordAnswer r ≡ readOf true (take len held ++ etx ∷ []) ⌝ }
 {
     let size = capped(len);
-    let mut whole = [0u8; 25];
+    let mut whole = [0u8; PLACES + 1];
     let mut at: usize = 0;
     while at < size {
         whole[at] = held[at];

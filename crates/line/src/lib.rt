@@ -14,15 +14,21 @@ use telegram::ETX;
 use telegram::STX;
 ghost use mathlib.Core.Path.{_≡_};
 ghost use Rattle.line.specs.declared.Heard.the-variants.{Refused};
-ghost use Rattle.line.specs.Line.{freshReader, wellFormed, readerOf, feedReader, endReader, isStarted, allZero};
+ghost use Rattle.line.specs.Line.{lineWith, readerWith, freshReader, wellFormed, readerOf, feedReader, endReader, isStarted, allZero};
+ghost use Rattle.ascii.specs.Control.{stx};
 ghost use mathlib.Core.Bool.{true};
 ghost use mathlib.Core.List.{[], _∷_};
 ghost use Prim.Native.Nat.{_+_, _%_, _^_, _<_};
 ghost use lib.ListN.{take, drop};
 
+// How many bytes a reader holds at most; a telegram of one more is too long.
+pub const PLACES: usize = 24;
+
+const LONGEST: u32 = PLACES as u32 + 1;
+
 pub struct Reader {
     // The bytes of a started telegram, and zeros behind them.
-    pub held: [u8; 24],
+    pub held: [u8; PLACES],
     pub len: usize,
     // Bytes fed, stray bytes, and the position of the first byte held. They run free and wrap.
     pub fed: u32,
@@ -50,7 +56,7 @@ pub struct Ended {
 }
 
 // Whether the first `len` bytes are a started telegram, or none.
-fn is_started(held: [u8; 24], len: usize) -> bool
+fn is_started(held: [u8; PLACES], len: usize) -> bool
     ensures { λ r. ⌜ r ≡ isStarted (take len held) ⌝ }
 {
     if len == 0 {
@@ -60,7 +66,7 @@ fn is_started(held: [u8; 24], len: usize) -> bool
         return false;
     }
     let mut at: usize = 1;
-    while at < len && at < 24 {
+    while at < len && at < PLACES {
         if !runs::is_plain(held[at]) {
             return false;
         }
@@ -70,11 +76,11 @@ fn is_started(held: [u8; 24], len: usize) -> bool
 }
 
 // Whether nothing but zeros stands from `len` on.
-fn is_zero_from(held: [u8; 24], len: usize) -> bool
+fn is_zero_from(held: [u8; PLACES], len: usize) -> bool
     ensures { λ r. ⌜ r ≡ allZero (drop len held) ⌝ }
 {
     let mut at = len;
-    while at < 24 {
+    while at < PLACES {
         if held[at] != 0 {
             return false;
         }
@@ -90,32 +96,33 @@ fn moved(count: u32, by: usize) -> u32
     wrapping_add_u32(count, (by % 4294967296) as u32)
 }
 
-// A reader outside a telegram.
-fn outside(fed: u32, stray: u32) -> Reader
-    ensures { λ r. ⌜ r ≡ readerOf (record { held = []; fed = fed; stray = stray }) ⌝ }
+// Every reader is built here.
+fn reader_with(held: [u8; PLACES], len: usize, fed: u32, stray: u32, start: u32) -> Reader
+    ensures { λ r. ⌜ r ≡ readerWith held len fed stray start ⌝ }
 {
     Reader {
-        held: [0u8; 24],
-        len: 0,
+        held: held,
+        len: len,
         fed: fed,
         stray: stray,
-        start: fed,
+        start: start,
     }
+}
+
+// A reader outside a telegram.
+fn outside(fed: u32, stray: u32) -> Reader
+    ensures { λ r. ⌜ r ≡ readerOf (lineWith [] fed stray) ⌝ }
+{
+    reader_with([0u8; PLACES], 0, fed, stray, fed)
 }
 
 // A reader that holds the STX it was fed last.
 fn begun(fed: u32, stray: u32) -> Reader
-    ensures { λ r. ⌜ r ≡ readerOf (record { held = 2 ∷ []; fed = fed; stray = stray }) ⌝ }
+    ensures { λ r. ⌜ r ≡ readerOf (lineWith (stx ∷ []) fed stray) ⌝ }
 {
-    let mut held = [0u8; 24];
+    let mut held = [0u8; PLACES];
     held[0] = STX;
-    Reader {
-        held: held,
-        len: 1,
-        fed: fed,
-        stray: stray,
-        start: wrapping_sub_u32(fed, 1),
-    }
+    reader_with(held, 1, fed, stray, wrapping_sub_u32(fed, 1))
 }
 
 // A state that is not well formed comes back as it was.
@@ -143,13 +150,7 @@ fn feed_inside(reader: Reader, piece: &[u8]) -> Fed
     let start = reader.start;
     if added == piece.len() {
         return Fed {
-            reader: Reader {
-                held: all,
-                len: len,
-                fed: moved(reader.fed, added),
-                stray: stray,
-                start: start,
-            },
+            reader: reader_with(all, len, moved(reader.fed, added), stray, start),
             taken: added,
             heard: Heard::Nothing,
         };
@@ -177,13 +178,13 @@ fn feed_inside(reader: Reader, piece: &[u8]) -> Fed
     Fed {
         reader: outside(fed, stray),
         taken: taken,
-        heard: Heard::Event(RecordAnswer::Refused(TOO_LONG), start, 25),
+        heard: Heard::Event(RecordAnswer::Refused(TOO_LONG), start, LONGEST),
     }
 }
 
 // Outside a telegram: the bytes before the first STX are stray, and counted at once.
 fn feed_outside(fed: u32, stray: u32, piece: &[u8]) -> Fed
-    ensures { λ r. ⌜ r ≡ feedReader (readerOf (record { held = []; fed = fed; stray = stray })) (now (piece .entry)) ⌝ }
+    ensures { λ r. ⌜ r ≡ feedReader (readerOf (lineWith [] fed stray)) (now (piece .entry)) ⌝ }
 {
     let skipped = runs::stray_run(piece);
     let stray = moved(stray, skipped);
@@ -208,24 +209,20 @@ fn feed_outside(fed: u32, stray: u32, piece: &[u8]) -> Fed
 }
 
 impl Reader {
+    // A reader that was fed nothing.
     pub fn fresh() -> Reader
         ensures { λ r. ⌜ r ≡ freshReader ⌝ }
     {
-        Reader {
-            held: [0u8; 24],
-            len: 0,
-            fed: 0,
-            stray: 0,
-            start: 0,
-        }
+        outside(0, 0)
     }
 
+    // Whether a state is one that feeding leads to; any other is refused.
     pub fn is_well_formed(self) -> bool
         ensures { λ r. ⌜ r ≡ wellFormed self ⌝ }
     {
         let held = self.held;
         let len = self.len;
-        if 24 < len {
+        if PLACES < len {
             return false;
         }
         if !is_started(held, len) {

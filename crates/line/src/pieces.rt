@@ -3,17 +3,20 @@ use super::Heard;
 use super::Reader;
 use refusals::NONE;
 ghost use mathlib.Core.Path.{_≡_};
-ghost use Rattle.line.specs.Pieces.{passedFor, passing};
+ghost use Rattle.line.specs.Pieces.{room, passedFor, passing};
+
+// How many events one call has room for.
+pub const ROOM: usize = 32;
 
 // One event handed on; nothing where none is.
 pub struct Slot {
     pub heard: Heard,
 }
 
-// The events of a piece in their order. A byte gives at most one event, so of a piece of at most 32 bytes nothing is left;
-// of a longer one the bytes from `taken` on are left where 32 events stand before its end.
+// The events of a piece in their order. A byte gives at most one event, so of a piece of at most `ROOM` bytes nothing is
+// left; of a longer one the bytes from `taken` on are left where `ROOM` events stand before its end.
 pub struct Passed {
-    pub slots: [Slot; 32],
+    pub slots: [Slot; ROOM],
     pub count: usize,
     pub reader: Reader,
     pub taken: usize,
@@ -21,17 +24,18 @@ pub struct Passed {
     pub refusal: u8,
 }
 
+// Feeds a piece again and again from where the last call stopped, until it is used up or every slot is taken.
 pub fn use_up(reader: Reader, piece: &[u8]) -> Passed
-    ensures { λ r. ⌜ r ≡ passedFor (passing 32 reader (now (piece .entry))) ⌝ }
+    ensures { λ r. ⌜ r ≡ passedFor (passing room reader (now (piece .entry))) ⌝ }
 {
     let length = piece.len();
     let mut slots = [Slot {
         heard: Heard::Nothing,
-    }; 32];
+    }; ROOM];
     let mut count: usize = 0;
     let mut next = reader;
     let mut taken: usize = 0;
-    while count < 32 {
+    while count < ROOM {
         let fed = next.feed(&piece[taken..length]);
         let heard = fed.heard;
         next = fed.reader;

@@ -1,4 +1,5 @@
 // Runs of bytes at the front of a piece that are taken alike, and so taken at once.
+use super::PLACES;
 use telegram::ETX;
 use telegram::STX;
 ghost use mathlib.Core.Path.{_≡_};
@@ -6,7 +7,8 @@ ghost use lib.Seq.{paste};
 ghost use Rattle.line.specs.Line.{isPlain};
 ghost use Rattle.line.specs.Runs.{strayRun, roomyRun};
 
-pub fn is_plain(byte: u8) -> bool
+// Whether a byte is held inside a telegram as it comes.
+pub(crate) fn is_plain(byte: u8) -> bool
     ensures { λ r. ⌜ r ≡ isPlain byte ⌝ }
 {
     if byte == STX {
@@ -16,7 +18,7 @@ pub fn is_plain(byte: u8) -> bool
 }
 
 // How many bytes stand before the first STX.
-pub fn stray_run(piece: &[u8]) -> usize
+pub(crate) fn stray_run(piece: &[u8]) -> usize
     ensures { λ r. ⌜ r ≡ strayRun (now (piece .entry)) ⌝ }
 {
     let length = piece.len();
@@ -32,13 +34,13 @@ pub fn stray_run(piece: &[u8]) -> usize
 
 // Bytes held behind others.
 pub struct Gathered {
-    pub held: [u8; 24],
+    pub held: [u8; PLACES],
     // How many were added.
     pub added: usize,
 }
 
 // Holds the plain bytes at the front of a piece behind the first `len`, as far as there is room.
-pub fn gather(held: [u8; 24], len: usize, piece: &[u8]) -> Gathered
+pub(crate) fn gather(held: [u8; PLACES], len: usize, piece: &[u8]) -> Gathered
     ensures added { λ r. ⌜ r .added ≡ roomyRun len (now (piece .entry)) ⌝ }
     ensures laid { λ r. ⌜ r .held ≡ paste held len (now (piece .entry)) (roomyRun len (now (piece .entry))) ⌝ }
 {
@@ -46,7 +48,7 @@ pub fn gather(held: [u8; 24], len: usize, piece: &[u8]) -> Gathered
     let mut all = held;
     let mut at: usize = 0;
     let mut end = len;
-    while end < 24 && at < length {
+    while end < PLACES && at < length {
         let byte = piece[at];
         if !is_plain(byte) {
             return Gathered {

@@ -8,10 +8,11 @@ use lib.ListN.{length, length-map, take, getD}
 use Rattle.refusals.specs.Refusals.{refused}
 use Rattle.telegram.specs.Reading.{readOf}
 use Rattle.line.specs.declared.Heard.the-variants.{Nothing}
-use Rattle.line.specs.Line.{answerFor}
+use Rattle.line.specs.Line.{places, longest, readerWith, answerFor}
 use Rattle.line.proofs.ReaderLaws.{well}
 use Rattle.line.proofs.Inside.{added, gathered, gathered-size, added-fits, inside-holds, stops-with, told-etx, told-stx, told-full, judged, answered}
 use borrow.Author.Needs.{needs}
+use Rattle.ascii.specs.Control.{stx, etx}
 use Rattle.line.proofs.feed_inside.Statement.{statement}
 use Rattle.line.proofs.feed_inside.Tie as tie
 
@@ -20,56 +21,55 @@ gather-requires c κs = search needs
 
 add-len : tie.Need-add-len
 add-len c =
-    let reader = c .before .before .before .before .before .args .reader in
-    let piece = c .before .before .before .before .before .args .piece .now in
-    let size : length (reader .held) ≡ 24 = sym (length-map (reader .held) (λ x. x)) ∙ c .before .before .before .before .before .good .0 .1 .1 .0 .1 .0 .1 in
-    let good = c .before .before .before .before .before .pre .0 in
-    let some = c .before .before .before .before .before .pre .1 in
+    let start = c .before .before .before .before .before in
+    let reader = start .args .reader in
+    let piece = start .args .piece .now in
+    let size : length (reader .held) ≡ places = sym (length-map (reader .held) (λ x. x)) ∙ start .good .0 .1 .1 .0 .1 .0 .1 in
+    let good = start .pre .0 in
+    let some = start .pre .1 in
     let n = c .before .before .gather .ensures .0 in
     omega (arith, n, added-fits reader piece size good some .0, added-fits reader piece size good some .1, well reader good .fits)
 
 moved-requires : tie.Need-moved-requires
 moved-requires c κs = search needs
 
+reader-with-requires : tie.Need-reader-with-requires
+reader-with-requires c κs = search needs
+
 returns : tie.Need-returns
 returns c =
-    let reader = c .before .before .before .before .before .before .before .args .reader in
-    let piece = c .before .before .before .before .before .before .before .args .piece .now in
-    let size : length (reader .held) ≡ 24 = sym (length-map (reader .held) (λ x. x)) ∙ c .before .before .before .before .before .before .before .good .0 .1 .1 .0 .1 .0 .1 in
-    let good = c .before .before .before .before .before .before .before .pre .0 in
-    let some = c .before .before .before .before .before .before .before .pre .1 in
-    let n = c .before .before .before .before .gather .ensures .0 in
-    (λ i. record {
-      reader =
-          record {
-            held = c .before .before .before .before .gather .ensures .1 i;
-            len = reader .len + n i;
-            fed = (c .moved .ensures ∙ ap (λ k. (reader .fed + k) % 2 ^ 32) n) i;
-            stray = reader .stray;
-            start = reader .start;
-          };
-      taken = n i;
-      heard = Nothing;
-    })
-    ∙ sym (inside-holds reader piece size good some (omega (arith, c .before .before .before .before .before .before .before .good)) (sym n ∙ c .before .if1 .taken))
+    let start = c .before .before .before .before .before .before .before .before in
+    let reader = start .args .reader in
+    let piece = start .args .piece .now in
+    let size : length (reader .held) ≡ places = sym (length-map (reader .held) (λ x. x)) ∙ start .good .0 .1 .1 .0 .1 .0 .1 in
+    let good = start .pre .0 in
+    let some = start .pre .1 in
+    let n = c .before .before .before .before .before .gather .ensures .0 in
+    let fed = c .before .moved .ensures ∙ ap (λ k. (reader .fed + k) % 2 ^ 32) n in
+    let held = c .before .before .before .before .before .gather .ensures .1 in
+    let same = c .reader-with .ensures ∙ (λ i. readerWith (held i) (reader .len + n i) (fed i) (reader .stray) (reader .start)) in
+    (λ i. record { reader = same i; taken = n i; heard = Nothing })
+    ∙ sym (inside-holds reader piece size good some (omega (arith, start .good)) (sym n ∙ c .before .before .if1 .taken))
 
 shared-slice-read-byte : tie.Need-shared-slice-read-byte
 shared-slice-read-byte c =
-    let reader = c .before .before .before .before .before .before .before .args .reader in
-    let piece = c .before .before .before .before .before .before .before .args .piece .now in
-    let size : length (reader .held) ≡ 24 = sym (length-map (reader .held) (λ x. x)) ∙ c .before .before .before .before .before .before .before .good .0 .1 .1 .0 .1 .0 .1 in
-    let good = c .before .before .before .before .before .before .before .pre .0 in
-    let some = c .before .before .before .before .before .before .before .pre .1 in
+    let start = c .before .before .before .before .before .before .before in
+    let reader = start .args .reader in
+    let piece = start .args .piece .now in
+    let size : length (reader .held) ≡ places = sym (length-map (reader .held) (λ x. x)) ∙ start .good .0 .1 .1 .0 .1 .0 .1 in
+    let good = start .pre .0 in
+    let some = start .pre .1 in
     let n = c .before .before .before .before .gather .ensures .0 in
     omega (arith, n, added-fits reader piece size good some .1)
 
 add-taken : tie.Need-add-taken
 add-taken c =
-    let reader = c .before .before .before .before .before .before .before .args .reader in
-    let piece = c .before .before .before .before .before .before .before .args .piece .now in
-    let size : length (reader .held) ≡ 24 = sym (length-map (reader .held) (λ x. x)) ∙ c .before .before .before .before .before .before .before .good .0 .1 .1 .0 .1 .0 .1 in
-    let good = c .before .before .before .before .before .before .before .pre .0 in
-    let some = c .before .before .before .before .before .before .before .pre .1 in
+    let start = c .before .before .before .before .before .before .before in
+    let reader = start .args .reader in
+    let piece = start .args .piece .now in
+    let size : length (reader .held) ≡ places = sym (length-map (reader .held) (λ x. x)) ∙ start .good .0 .1 .1 .0 .1 .0 .1 in
+    let good = start .pre .0 in
+    let some = start .pre .1 in
     let n = c .before .before .before .before .gather .ensures .0 in
     omega (arith, n, added-fits reader piece size good some .0, added-fits reader piece size good some .1, well reader good .fits)
 
@@ -78,11 +78,12 @@ moved-requires-2 c κs = search needs
 
 cast-size : tie.Need-cast-size
 cast-size c =
-    let reader = c .before .before .before .before .before .before .before .before .args .reader in
-    let piece = c .before .before .before .before .before .before .before .before .args .piece .now in
-    let size : length (reader .held) ≡ 24 = sym (length-map (reader .held) (λ x. x)) ∙ c .before .before .before .before .before .before .before .before .good .0 .1 .1 .0 .1 .0 .1 in
-    let good = c .before .before .before .before .before .before .before .before .pre .0 in
-    let some = c .before .before .before .before .before .before .before .before .pre .1 in
+    let start = c .before .before .before .before .before .before .before .before in
+    let reader = start .args .reader in
+    let piece = start .args .piece .now in
+    let size : length (reader .held) ≡ places = sym (length-map (reader .held) (λ x. x)) ∙ start .good .0 .1 .1 .0 .1 .0 .1 in
+    let good = start .pre .0 in
+    let some = start .pre .1 in
     let n = c .before .before .before .before .before .gather .ensures .0 in
     omega (arith, n, added-fits reader piece size good some .0, added-fits reader piece size good some .1, well reader good .fits)
 
@@ -91,11 +92,12 @@ judge-requires c κs = search needs
 
 add-whole : tie.Need-add-whole
 add-whole c =
-    let reader = c .before .before .before .before .before .before .before .before .before .before .args .reader in
-    let piece = c .before .before .before .before .before .before .before .before .before .before .args .piece .now in
-    let size : length (reader .held) ≡ 24 = sym (length-map (reader .held) (λ x. x)) ∙ c .before .before .before .before .before .before .before .before .before .before .good .0 .1 .1 .0 .1 .0 .1 in
-    let good = c .before .before .before .before .before .before .before .before .before .before .pre .0 in
-    let some = c .before .before .before .before .before .before .before .before .before .before .pre .1 in
+    let start = c .before .before .before .before .before .before .before .before .before .before in
+    let reader = start .args .reader in
+    let piece = start .args .piece .now in
+    let size : length (reader .held) ≡ places = sym (length-map (reader .held) (λ x. x)) ∙ start .good .0 .1 .1 .0 .1 .0 .1 in
+    let good = start .pre .0 in
+    let some = start .pre .1 in
     let n = c .before .before .before .before .before .before .before .gather .ensures .0 in
     omega (arith, n, added-fits reader piece size good some .0, added-fits reader piece size good some .1, well reader good .fits)
 
@@ -104,20 +106,21 @@ outside-requires c κs = search needs
 
 returns-2 : tie.Need-returns-2
 returns-2 c =
-    let reader = c .before .before .before .before .before .before .before .before .before .before .before .args .reader in
-    let piece = c .before .before .before .before .before .before .before .before .before .before .before .args .piece .now in
-    let size : length (reader .held) ≡ 24 = sym (length-map (reader .held) (λ x. x)) ∙ c .before .before .before .before .before .before .before .before .before .before .before .good .0 .1 .1 .0 .1 .0 .1 in
-    let good = c .before .before .before .before .before .before .before .before .before .before .before .pre .0 in
-    let some = c .before .before .before .before .before .before .before .before .before .before .before .pre .1 in
+    let start = c .before .before .before .before .before .before .before .before .before .before .before in
+    let reader = start .args .reader in
+    let piece = start .args .piece .now in
+    let size : length (reader .held) ≡ places = sym (length-map (reader .held) (λ x. x)) ∙ start .good .0 .1 .1 .0 .1 .0 .1 in
+    let good = start .pre .0 in
+    let some = start .pre .1 in
     let n = c .before .before .before .before .before .before .before .before .gather .ensures .0 in
     let more : added reader piece size good some < length piece = omega (arith, n, added-fits reader piece size good some .1) in
-    let etx = ap (λ k. getD piece k 0) (sym n) ∙ c .before .before .if2 .taken in
+    let is-etx = ap (λ k. getD piece k 0) (sym n) ∙ c .before .before .if2 .taken in
     let bytes = ap₂ (λ k all. take (reader .len + k) all) n (c .before .before .before .before .before .before .before .before .gather .ensures .1) ∙ judged reader piece size good some in
-    stops-with reader piece size good some [] (readOf true (gathered reader piece size good some ++ 3 ∷ [])) (length (gathered reader piece size good some) + 1) (omega arith) (told-etx reader piece size good some more etx) _ _ _ _ _
+    stops-with reader piece size good some [] (readOf true (gathered reader piece size good some ++ etx ∷ [])) (length (gathered reader piece size good some) + 1) (omega arith) (told-etx reader piece size good some more is-etx) _ _ _ _ _
     (c .outside .ensures)
     (c .before .before .before .moved2 .ensures)
     n
-    (answered (c .before .judge .result) ∙ ap answerFor (c .before .judge .ensures ∙ ap (λ held. readOf true (held ++ 3 ∷ [])) bytes))
+    (answered (c .before .judge .result) ∙ ap answerFor (c .before .judge .ensures ∙ ap (λ held. readOf true (held ++ etx ∷ [])) bytes))
     (omega (arith, n, gathered-size reader piece size good some))
 
 begun-requires : tie.Need-begun-requires
@@ -125,15 +128,16 @@ begun-requires c κs = search needs
 
 returns-3 : tie.Need-returns-3
 returns-3 c =
-    let reader = c .before .before .before .before .before .before .before .before .before .before .before .args .reader in
-    let piece = c .before .before .before .before .before .before .before .before .before .before .before .args .piece .now in
-    let size : length (reader .held) ≡ 24 = sym (length-map (reader .held) (λ x. x)) ∙ c .before .before .before .before .before .before .before .before .before .before .before .good .0 .1 .1 .0 .1 .0 .1 in
-    let good = c .before .before .before .before .before .before .before .before .before .before .before .pre .0 in
-    let some = c .before .before .before .before .before .before .before .before .before .before .before .pre .1 in
+    let start = c .before .before .before .before .before .before .before .before .before .before .before in
+    let reader = start .args .reader in
+    let piece = start .args .piece .now in
+    let size : length (reader .held) ≡ places = sym (length-map (reader .held) (λ x. x)) ∙ start .good .0 .1 .1 .0 .1 .0 .1 in
+    let good = start .pre .0 in
+    let some = start .pre .1 in
     let n = c .before .before .before .before .before .before .before .before .gather .ensures .0 in
     let more : added reader piece size good some < length piece = omega (arith, n, added-fits reader piece size good some .1) in
-    let stx = ap (λ k. getD piece k 0) (sym n) ∙ c .before .if3 .taken in
-    stops-with reader piece size good some (2 ∷ []) (refused 9) (length (gathered reader piece size good some)) (omega arith) (told-stx reader piece size good some more stx) _ _ _ _ _
+    let is-stx = ap (λ k. getD piece k 0) (sym n) ∙ c .before .if3 .taken in
+    stops-with reader piece size good some (stx ∷ []) (refused 9) (length (gathered reader piece size good some)) (omega arith) (told-stx reader piece size good some more is-stx) _ _ _ _ _
     (c .begun .ensures)
     (c .before .before .before .moved2 .ensures)
     n
@@ -145,14 +149,15 @@ outside-requires-2 c κs = search needs
 
 returns-4 : tie.Need-returns-4
 returns-4 c =
-    let reader = c .before .before .before .before .before .before .before .before .before .before .before .args .reader in
-    let piece = c .before .before .before .before .before .before .before .before .before .before .before .args .piece .now in
-    let size : length (reader .held) ≡ 24 = sym (length-map (reader .held) (λ x. x)) ∙ c .before .before .before .before .before .before .before .before .before .before .before .good .0 .1 .1 .0 .1 .0 .1 in
-    let good = c .before .before .before .before .before .before .before .before .before .before .before .pre .0 in
-    let some = c .before .before .before .before .before .before .before .before .before .before .before .pre .1 in
+    let start = c .before .before .before .before .before .before .before .before .before .before .before in
+    let reader = start .args .reader in
+    let piece = start .args .piece .now in
+    let size : length (reader .held) ≡ places = sym (length-map (reader .held) (λ x. x)) ∙ start .good .0 .1 .1 .0 .1 .0 .1 in
+    let good = start .pre .0 in
+    let some = start .pre .1 in
     let n = c .before .before .before .before .before .before .before .before .gather .ensures .0 in
     let more : added reader piece size good some < length piece = omega (arith, n, added-fits reader piece size good some .1) in
-    stops-with reader piece size good some [] (refused 10) 25 (omega arith)
+    stops-with reader piece size good some [] (refused 10) longest (omega arith)
     (told-full reader piece size good some more (λ e. c .before .before .if2 .left (ap (λ k. getD piece k 0) n ∙ e)) (λ e. c .before .if3 .left (ap (λ k. getD piece k 0) n ∙ e)))
     _ _ _ _ _
     (c .outside2 .ensures)
@@ -168,6 +173,7 @@ feed-inside-spec =
     gather-requires
     add-len
     moved-requires
+    reader-with-requires
     returns
     shared-slice-read-byte
     add-taken

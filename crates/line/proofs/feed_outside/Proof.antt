@@ -4,12 +4,12 @@ use mathlib.Core.List.{[], _∷_}
 use Prim.Native.Nat.{_+_, _-_}
 use lib.ListN.{length, take, drop, length-take, length-drop}
 use lib.Seq.{take-all}
-use Rattle.line.specs.Line.{wellFormed, feedReader}
+use Rattle.line.specs.Line.{lineWith, wellFormed, feedReader}
 use Rattle.line.proofs.RunLaws.{stray-ends}
-use Rattle.line.proofs.FeedLaws.{inside}
 use Rattle.line.proofs.Wraps.{reader-well, feed-reader, taken-fits}
 use Rattle.line.proofs.Strays.{outside-all, outside-starts}
 use borrow.Author.Needs.{needs}
+use Rattle.ascii.specs.Control.{stx}
 use Rattle.line.proofs.feed_outside.Statement.{statement}
 use Rattle.line.proofs.feed_outside.Tie as tie
 
@@ -49,15 +49,15 @@ part-feed-inside-end c = search needs
 feed-inside-requires : tie.Need-feed-inside-requires
 feed-inside-requires c κs =
     let begun = c .before .begun .ensures in
-    (ap wellFormed begun ∙ reader-well (2 ∷ []) (c .before .before .moved3 .result) (c .before .before .before .before .moved .result) (omega arith) refl, omega (arith, ap (λ reader. reader .len) begun))
+    (ap wellFormed begun ∙ reader-well (stx ∷ []) (c .before .before .moved3 .result) (c .before .before .before .before .moved .result) (omega arith) refl, omega (arith, ap (λ reader. reader .len) begun))
 
 add-t18 : tie.Need-add-t18
 add-t18 c =
     let piece = c .before .before .before .before .before .before .before .before .before .before .args .piece .now in
     let first = c .before .before .before .before .before .before .before .before .stray-run .result + 1 in
     let rest = take (length piece - first) (drop first piece) in
-    let told = c .before .before .feed-inside .ensures ∙ ap (λ reader. feedReader reader rest) (c .before .before .before .before .begun .ensures) ∙ feed-reader (2 ∷ []) (c .before .before .before .before .before .moved3 .result) (c .before .before .before .before .before .before .before .moved .result) (omega arith) refl rest in
-    let taken = taken-fits (inside (2 ∷ []) (c .before .before .before .before .before .moved3 .result) (c .before .before .before .before .before .before .before .moved .result)) rest in
+    let told = c .before .before .feed-inside .ensures ∙ ap (λ reader. feedReader reader rest) (c .before .before .before .before .begun .ensures) ∙ feed-reader (stx ∷ []) (c .before .before .before .before .before .moved3 .result) (c .before .before .before .before .before .before .before .moved .result) (omega arith) refl rest in
+    let taken = taken-fits (lineWith (stx ∷ []) (c .before .before .before .before .before .moved3 .result) (c .before .before .before .before .before .before .before .moved .result)) rest in
     omega (arith, c .before .before .before .before .before .before .before .before .stray-run .ensures, stray-ends piece .0, ap (λ fed. fed .taken) told, taken, length-take (length piece - first) (drop first piece), length-drop first piece)
 
 returns-2 : tie.Need-returns-2

@@ -6,7 +6,7 @@ use mathlib.Core.Bool.{_&&_}
 use Prim.Native.Nat.{_-_, _+_, _≤_}
 use lib.ListN.{length, take, drop}
 use borrow.Author.Tests.{eq-eqb, ne-eqb, ltb-true, ltb-false, not-true, not-false}
-use Rattle.line.specs.Line.{allPlain}
+use Rattle.line.specs.Line.{places, allPlain}
 use Rattle.line.proofs.Forms.{plain-step, plain-end, first-is}
 use Rattle.line.proofs.is_started.Statement.{statement}
 use Rattle.line.proofs.is_started.Tie as tie
@@ -15,7 +15,7 @@ abbrev Inv-loop : tie.InvT-loop
 Inv-loop len held at₀ at = (1 ≤ at) × (allPlain (drop at (take len held)) ≡ allPlain (drop 1 (take len held)))
 
 abbrev μ-loop : tie.MeasureT-loop
-μ-loop len held at₀ at = 24 - at
+μ-loop len held at₀ at = places - at
 
 returns : tie.Need-returns Inv-loop μ-loop
 returns c = rw (c .if1 .taken)
@@ -25,7 +25,7 @@ array-read-if2 c = omega arith
 
 returns-2 : tie.Need-returns-2 Inv-loop μ-loop
 returns-2 c =
-    let size : length (c .before .before .args .t1) ≡ 24 = omega (arith, c .before .before .good) in
+    let size : length (c .before .before .args .t1) ≡ places = omega (arith, c .before .before .good) in
     rw (first-is (c .before .before .args .t1) (c .before .before .args .len) size (omega arith), ne-eqb _ _ (c .if2 .taken))
 
 loop-holds : tie.Need-loop-holds Inv-loop μ-loop
@@ -39,7 +39,7 @@ is-plain-requires c κs = search needs
 
 returns-3 : tie.Need-returns-3 Inv-loop μ-loop
 returns-3 c =
-    let size : length (c .before .before .before .before .before .before .before .args .t1) ≡ 24 = omega (arith, c .before .before .before .before .before .before .before .good) in
+    let size : length (c .before .before .before .before .before .before .before .args .t1) ≡ places = omega (arith, c .before .before .before .before .before .before .before .good) in
     let held = c .before .before .before .before .before .before .before .args .t1 in
     let len = c .before .before .before .before .before .before .before .args .len in
     let at = c .before .before .before .before .loop .at in
@@ -49,14 +49,14 @@ returns-3 c =
     (ap (λ p. p && allPlain (drop (at + 1) (take len held))) (sym bad) ∙ sym here ∙ c .before .before .before .before .loop .inv .1)
 
 add-at : tie.Need-add-at Inv-loop μ-loop
-add-at c = omega (arith, ltb-true (c .before .before .before .before .loop .at) 24 (c .before .before .if3 .taken))
+add-at c = omega (arith, ltb-true (c .before .before .before .before .loop .at) places (c .before .before .if3 .taken))
 
 loop-less : tie.Need-loop-less Inv-loop μ-loop
-loop-less c = omega (arith, ltb-true (c .before .before .before .before .loop .at) 24 (c .before .before .if3 .taken))
+loop-less c = omega (arith, ltb-true (c .before .before .before .before .loop .at) places (c .before .before .if3 .taken))
 
 loop-again : tie.Need-loop-again Inv-loop μ-loop
 loop-again c =
-    let size : length (c .before .before .before .before .before .before .before .args .t1) ≡ 24 = omega (arith, c .before .before .before .before .before .before .before .good) in
+    let size : length (c .before .before .before .before .before .before .before .args .t1) ≡ places = omega (arith, c .before .before .before .before .before .before .before .good) in
     let held = c .before .before .before .before .before .before .before .args .t1 in
     let len = c .before .before .before .before .before .before .before .args .len in
     let at = c .before .before .before .before .loop .at in
@@ -66,16 +66,16 @@ loop-again c =
 
 returns-4 : tie.Need-returns-4 Inv-loop μ-loop
 returns-4 c =
-    let size : length (c .before .before .before .before .before .args .t1) ≡ 24 = omega (arith, c .before .before .before .before .before .good) in
+    let size : length (c .before .before .before .before .before .args .t1) ≡ places = omega (arith, c .before .before .before .before .before .good) in
     let held = c .before .before .before .before .before .args .t1 in
     let len = c .before .before .before .before .before .args .len in
-    let full = ltb-false (c .before .before .loop .at) 24 (c .if3 .left) in
+    let full = ltb-false (c .before .before .loop .at) places (c .if3 .left) in
     rw (first-is held len size (omega arith), eq-eqb _ _ (c .before .before .before .if2 .left))
     (sym (plain-end held len size (c .before .before .loop .at) (omega arith)) ∙ c .before .before .loop .inv .1)
 
 returns-5 : tie.Need-returns-5 Inv-loop μ-loop
 returns-5 c =
-    let size : length (c .before .before .before .before .args .t1) ≡ 24 = omega (arith, c .before .before .before .before .good) in
+    let size : length (c .before .before .before .before .args .t1) ≡ places = omega (arith, c .before .before .before .before .good) in
     let held = c .before .before .before .before .args .t1 in
     let len = c .before .before .before .before .args .len in
     rw (first-is held len size (omega arith), eq-eqb _ _ (c .before .before .if2 .left))

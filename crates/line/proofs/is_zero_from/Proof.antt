@@ -5,7 +5,7 @@ use mathlib.Core.Bool.{_&&_}
 use Prim.Native.Nat.{_-_, _+_}
 use lib.ListN.{length, drop}
 use borrow.Author.Tests.{eq-eqb, ne-eqb}
-use Rattle.line.specs.Line.{allZero}
+use Rattle.line.specs.Line.{places, allZero}
 use Rattle.line.proofs.Forms.{zero-step, zero-end}
 use Rattle.line.proofs.is_zero_from.Statement.{statement}
 use Rattle.line.proofs.is_zero_from.Tie as tie
@@ -14,7 +14,7 @@ abbrev Inv-loop : tie.InvT-loop
 Inv-loop len held at₀ at = allZero (drop at held) ≡ allZero (drop len held)
 
 abbrev μ-loop : tie.MeasureT-loop
-μ-loop len held at₀ at = 24 - at
+μ-loop len held at₀ at = places - at
 
 loop-holds : tie.Need-loop-holds Inv-loop μ-loop
 loop-holds c = refl
@@ -25,7 +25,7 @@ array-read-if1 c = omega arith
 returns : tie.Need-returns Inv-loop μ-loop
 returns c =
     let held = c .before .before .before .args .t1 in
-    let size : length held ≡ 24 = omega (arith, c .before .before .before .good) in
+    let size : length held ≡ places = omega (arith, c .before .before .before .good) in
     let here = zero-step held (c .before .before .loop .at) (omega arith) in
     ap (λ z. z && allZero (drop (c .before .before .loop .at + 1) held)) (sym (ne-eqb _ _ (c .if1 .taken))) ∙ sym here ∙ c .before .before .loop .inv
 
@@ -38,13 +38,13 @@ loop-less c = omega arith
 loop-again : tie.Need-loop-again Inv-loop μ-loop
 loop-again c =
     let held = c .before .before .before .args .t1 in
-    let size : length held ≡ 24 = omega (arith, c .before .before .before .good) in
+    let size : length held ≡ places = omega (arith, c .before .before .before .good) in
     let here = zero-step held (c .before .before .loop .at) (omega arith) in
     ap (λ z. z && allZero (drop (c .before .before .loop .at + 1) held)) (sym (eq-eqb _ _ (c .if1 .left))) ∙ sym here ∙ c .before .before .loop .inv
 
 returns-2 : tie.Need-returns-2 Inv-loop μ-loop
 returns-2 c =
-    let size : length (c .before .before .args .t1) ≡ 24 = omega (arith, c .before .before .good) in
+    let size : length (c .before .before .args .t1) ≡ places = omega (arith, c .before .before .good) in
     sym (zero-end (c .before .before .args .t1) (c .before .loop .at) (omega arith)) ∙ c .before .loop .inv
 
 pub is-zero-from-spec : {M : Type 1} → statement M

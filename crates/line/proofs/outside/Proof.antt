@@ -1,17 +1,19 @@
 -- `line::outside` meets its contract.
 use native.Mathlib.Omega.{arith}
-use mathlib.Core.Path.{_≡_}
-use Prim.Native.Nat.{_+_, _-_, _%_, _^_}
-use lib.ListN.{replicate}
+use borrow.Author.Needs.{needs}
+use mathlib.Core.Path.{_∙_}
+use mathlib.Core.List.{[]}
+use Rattle.line.proofs.Forms.{reader-is}
 use Rattle.line.proofs.outside.Statement.{statement}
 use Rattle.line.proofs.outside.Tie as tie
 
+reader-with-requires : tie.Need-reader-with-requires
+reader-with-requires c κs = search needs
+
 returns : tie.Need-returns
 returns c =
-    let fed : c .args .fed ≡ c .args .fed % 2 ^ 32 = omega arith in
-    let stray : c .args .stray ≡ c .args .stray % 2 ^ 32 = omega arith in
-    let start : c .args .fed ≡ (c .args .fed + (2 ^ 32 - 0)) % 2 ^ 32 = omega arith in
-    λ i. record { held = replicate 24 0; len = 0; fed = fed i; stray = stray i; start = start i }
+    let args = c .before .args in
+    c .reader-with .ensures ∙ reader-is [] (args .fed) (args .stray) (args .fed) (omega arith) (omega arith) (omega arith)
 
 pub outside-spec : {M : Type 1} → statement M
-outside-spec = tie.close (tie.spec returns)
+outside-spec = tie.close (tie.spec reader-with-requires returns)

@@ -4,6 +4,7 @@ use borrow.Author.Tests.{not-true, not-false}
 use lib.ListN.{length, length-map}
 use Rattle.record.specs.declared.RecordAnswer.the-variants as answer
 use Rattle.line.specs.declared.Heard.the-variants.{Nothing, Event}
+use Rattle.line.specs.Line.{places}
 use Rattle.line.proofs.ReaderLaws.{well, end-refused, end-outside, end-inside}
 use borrow.Author.Needs.{needs}
 use Rattle.line.proofs.Reader.end.Statement.{statement}
@@ -32,7 +33,7 @@ returns-3 : tie.Need-returns-3
 returns-3 c =
     let self = c .before .before .before .before .before .before .args .self in
     let well-formed = sym (c .before .before .before .before .before .is-well-formed .ensures) ∙ not-false _ (c .before .before .before .before .if1 .left) in
-    let size : length (self .held) ≡ 24 = sym (length-map (self .held) (λ x. x)) ∙ c .before .before .before .before .before .before .good .0 .1 .1 .0 .1 .0 .1 in
+    let size : length (self .held) ≡ places = sym (length-map (self .held) (λ x. x)) ∙ c .before .before .before .before .before .before .good .0 .1 .1 .0 .1 .0 .1 in
     (λ i. record { reader = c .before .before .before .outside .ensures i; heard = Event (answer.Refused 11) (self .start) (self .len) })
     ∙ sym (end-inside self well-formed size (omega arith))
 

@@ -2,7 +2,7 @@ use native.Mathlib.Omega.{arith}
 use mathlib.Core.Path.{_≡_, ap, sym, _∙_}
 use lib.ListN.{length, length-map}
 use borrow.Author.Tests.{not-true, not-false}
-use Rattle.line.specs.Line.{feedReader}
+use Rattle.line.specs.Line.{places, feedReader}
 use Rattle.line.proofs.ReaderLaws.{feed-refused, outside-back}
 use borrow.Author.Needs.{needs}
 use Rattle.line.proofs.Reader.feed.Statement.{statement}
@@ -26,7 +26,7 @@ returns-2 : tie.Need-returns-2
 returns-2 c =
     let self = c .before .before .before .before .before .before .args .self in
     let good = sym (c .before .before .before .before .is-well-formed .ensures) ∙ not-false _ (c .before .before .before .if1 .left) in
-    let size : length (self .held) ≡ 24 = sym (length-map (self .held) (λ x. x)) ∙ c .before .before .before .before .before .before .good .0 .1 .1 .0 .1 .0 .1 in
+    let size : length (self .held) ≡ places = sym (length-map (self .held) (λ x. x)) ∙ c .before .before .before .before .before .before .good .0 .1 .1 .0 .1 .0 .1 in
     let back = outside-back self good size (omega (arith, c .before .before .before .before .before .before .good)) (omega (arith, c .before .before .before .before .before .before .good)) (c .before .if2 .taken) in
     c .feed-outside .ensures ∙ ap (λ reader. feedReader reader (c .before .before .before .before .before .before .args .piece .now)) back
 

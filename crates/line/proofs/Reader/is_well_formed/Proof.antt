@@ -2,7 +2,7 @@ use native.Mathlib.Omega.{arith}
 use mathlib.Core.Path.{_≡_, sym, _∙_}
 use lib.ListN.{length, take, length-map}
 use borrow.Author.Tests.{le-leb, lt-leb, not-true, not-false}
-use Rattle.line.specs.Line.{wellFormed}
+use Rattle.line.specs.Line.{places, wellFormed}
 use Rattle.line.proofs.Forms.{start-is, taken-length}
 use borrow.Author.Needs.{needs}
 use Rattle.line.proofs.Reader.is_well_formed.Statement.{statement}
@@ -17,7 +17,7 @@ is-started-requires c κs = search needs
 
 returns-2 : tie.Need-returns-2
 unfolding wellFormed
-returns-2 c = simp (le-leb (c .before .before .before .before .args .self .len) 24 (omega arith), sym (c .before .is-started .ensures) ∙ not-true _ (c .if2 .taken))
+returns-2 c = simp (le-leb (c .before .before .before .before .args .self .len) places (omega arith), sym (c .before .is-started .ensures) ∙ not-true _ (c .if2 .taken))
 
 is-zero-from-requires : tie.Need-is-zero-from-requires
 is-zero-from-requires c κs = search needs
@@ -26,7 +26,7 @@ returns-3 : tie.Need-returns-3
 unfolding wellFormed
 returns-3 c =
     simp (
-      le-leb (c .before .before .before .before .before .before .args .self .len) 24 (omega arith),
+      le-leb (c .before .before .before .before .before .before .args .self .len) places (omega arith),
       sym (c .before .before .before .is-started .ensures) ∙ not-false _ (c .before .before .if2 .left),
       sym (c .before .is-zero-from .ensures) ∙ not-true _ (c .if3 .taken),
     )
@@ -41,7 +41,7 @@ returns-4 : tie.Need-returns-4
 unfolding wellFormed
 returns-4 c =
     let self = c .before .before .before .before .before .before .before .before .args .self in
-    let size : length (self .held) ≡ 24 = sym (length-map (self .held) (λ x. x)) ∙ c .before .before .before .before .before .before .before .before .good .0 .1 .1 .0 .1 .0 .1 in
+    let size : length (self .held) ≡ places = sym (length-map (self .held) (λ x. x)) ∙ c .before .before .before .before .before .before .before .before .good .0 .1 .1 .0 .1 .0 .1 in
     let start =
     start-is
     (self .fed)
@@ -52,7 +52,7 @@ returns-4 c =
     (omega (arith, taken-length (self .held) (self .len) size))
     (omega (arith, taken-length (self .held) (self .len) size, c .before .wrapping-sub-u32 .ensures)) in
     simp (
-      le-leb (self .len) 24 (omega arith),
+      le-leb (self .len) places (omega arith),
       sym (c .before .before .before .before .before .is-started .ensures) ∙ not-false _ (c .before .before .before .before .if2 .left),
       sym (c .before .before .before .is-zero-from .ensures) ∙ not-false _ (c .before .before .if3 .left),
       start,

@@ -6,12 +6,14 @@ use mathlib.Core.Bool.{true}
 use Prim.Native.Nat.{_+_, _-_, _≤_}
 use lib.ListN.{length, length-set, take, getD}
 use Rattle.telegram.specs.Reading.{readOf}
+use Rattle.ascii.specs.Control.{etx}
+use Rattle.line.specs.Line.{places, longest}
 use Rattle.line.proofs.Copies.{copy-step, closed}
 use Rattle.line.proofs.judge.judge.Statement.{statement}
 use Rattle.line.proofs.judge.judge.Tie as tie
 
 abbrev Inv-loop : tie.InvT-loop
-Inv-loop len held size whole₀ at₀ whole at = (at ≤ size) × (length whole ≡ 25) × (take at whole ≡ take at held)
+Inv-loop len held size whole₀ at₀ whole at = (at ≤ size) × (length whole ≡ longest) × (take at whole ≡ take at held)
 
 abbrev μ-loop : tie.MeasureT-loop
 μ-loop len held size whole₀ at₀ whole at = size - at
@@ -38,7 +40,7 @@ loop-again : tie.Need-loop-again Inv-loop μ-loop
 loop-again c =
     let held = c .before .before .before .args .t1 in
     let l = c .before .loop in
-    let size : length held ≡ 24 = omega (arith, c .before .before .before .good) in (
+    let size : length held ≡ places = omega (arith, c .before .before .before .good) in (
       omega arith,
       length-set (l .whole) (l .at) (getD held (l .at) 0) ∙ l .inv .1,
       copy-step held (l .whole) (l .at) (omega (arith, c .before .before .capped .ensures)) (omega (arith, c .before .before .capped .ensures, l .inv .1)) (l .inv .2),
@@ -57,7 +59,7 @@ part-read-start : tie.Need-part-read-start Inv-loop μ-loop
 part-read-start c = search needs
 
 part-read-end : tie.Need-part-read-end Inv-loop μ-loop
-part-read-end c = omega (arith, length-set (c .before .before .loop .whole) (c .before .before .loop .at) 3, c .before .before .before .capped .ensures, c .before .before .loop .inv .1)
+part-read-end c = omega (arith, length-set (c .before .before .loop .whole) (c .before .before .loop .at) etx, c .before .before .before .capped .ensures, c .before .before .loop .inv .1)
 
 read-requires : tie.Need-read-requires Inv-loop μ-loop
 read-requires c κs = search needs
@@ -66,8 +68,8 @@ returns : tie.Need-returns Inv-loop μ-loop
 returns c =
     let held = c .before .before .before .before .before .before .args .t1 in
     let l = c .before .before .before .before .loop in
-    let size : length held ≡ 24 = omega (arith, c .before .before .before .before .before .before .good) in
-    c .read .ensures ∙ ap (readOf true) (closed held (l .whole) (c .before .before .before .before .before .before .args .len) (l .at) (l .at + 1 - 0) 3 (omega arith) (omega (arith, c .before .before .before .before .before .capped .ensures)) (omega (arith, c .before .before .before .before .before .capped .ensures, l .inv .1)) (l .inv .2))
+    let size : length held ≡ places = omega (arith, c .before .before .before .before .before .before .good) in
+    c .read .ensures ∙ ap (readOf true) (closed held (l .whole) (c .before .before .before .before .before .before .args .len) (l .at) (l .at + 1 - 0) etx (omega arith) (omega (arith, c .before .before .before .before .before .capped .ensures)) (omega (arith, c .before .before .before .before .before .capped .ensures, l .inv .1)) (l .inv .2))
 
 pub judge-spec : {M : Type 1} → statement M
 judge-spec =

@@ -4,40 +4,34 @@ use borrow.Author.Needs.{needs}
 use mathlib.Core.Path.{_≡_, refl, ap, sym, _∙_}
 use Prim.Native.Nat.{_-_, _≤_, _<_}
 use lib.ListN.{length, take, drop, length-drop, length-take, length-set}
-use Rattle.line.specs.Pieces.{passOn, passing, slotOf, passedFor}
+use Rattle.line.specs.Pieces.{room, passOn, passing, slotOf, passedFor}
 use Rattle.line.proofs.PieceLaws.{feed-fits, behind, Empty, at-first, still-empty, ends-with, goes-on, full-ends}
 use Rattle.line.proofs.pieces.use_up.Statement.{statement}
 use Rattle.line.proofs.pieces.use_up.Tie as tie
 
 abbrev Inv-loop : tie.InvT-loop
 Inv-loop piece size slots₀ count₀ next₀ taken₀ slots count next taken =
-    (size ≡ length piece) × (taken ≤ length piece) × (count ≤ 32) × (length slots ≡ 32) × Empty slots count
-    × (passedFor (passing 32 next₀ piece) ≡ behind slots count taken (passing (32 - count) next (drop taken piece)))
+    (size ≡ length piece) × (taken ≤ length piece) × (count ≤ room) × (length slots ≡ room) × Empty slots count
+    × (passedFor (passing room next₀ piece) ≡ behind slots count taken (passing (room - count) next (drop taken piece)))
 
 abbrev μ-loop : tie.MeasureT-loop
-μ-loop piece size slots₀ count₀ next₀ taken₀ slots count next taken = 32 - count
+μ-loop piece size slots₀ count₀ next₀ taken₀ slots count next taken = room - count
 
--- src/pieces.rt:34:5
 loop-holds : tie.Need-loop-holds Inv-loop μ-loop
-loop-holds c = (refl, omega arith, omega arith, refl, refl, sym (at-first (passing 32 (c .before .args .reader) (c .before .args .piece .now))))
+loop-holds c = (refl, omega arith, omega arith, refl, refl, sym (at-first (passing room (c .before .args .reader) (c .before .args .piece .now))))
 
--- src/pieces.rt:35:29
 sub-feed : tie.Need-sub-feed Inv-loop μ-loop
 sub-feed c = omega (arith, c .before .loop .inv .0, c .before .loop .inv .1)
 
--- src/pieces.rt:35:29
 part-feed-start : tie.Need-part-feed-start Inv-loop μ-loop
 part-feed-start c = omega (arith, c .before .loop .inv .0, c .before .loop .inv .1)
 
--- src/pieces.rt:35:29
 part-feed-end : tie.Need-part-feed-end Inv-loop μ-loop
 part-feed-end c = search needs
 
--- src/pieces.rt:35:13
 feed-requires : tie.Need-feed-requires Inv-loop μ-loop
 feed-requires c κs = search needs
 
--- src/pieces.rt:38:9
 add-taken : tie.Need-add-taken Inv-loop μ-loop
 add-taken c =
     let l = c .before .before .before .before .before .loop in
@@ -46,69 +40,58 @@ add-taken c =
     let rest = take (length piece - l .taken) (drop (l .taken) piece) in
     omega (arith, ap (λ f. f .taken) (c .before .before .feed .ensures), feed-fits (l .next) rest, length-take (length piece - l .taken) (drop (l .taken) piece), length-drop (l .taken) piece, l .inv .1)
 
--- src/pieces.rt:42:28
 enum-told : tie.Need-enum-told Inv-loop μ-loop
 enum-told c = c .match .keys1
 
--- src/pieces.rt:41:17
 returns : tie.Need-returns Inv-loop μ-loop
 returns c =
     let l = c .before .before .before .before .before .before .before .loop in
     let fed = c .before .before .before .before .feed .result in
     let piece = c .before .before .before .before .before .before .before .before .before .args .piece .now in
-    ends-with (passedFor (passing 32 (c .before .before .before .before .before .before .before .before .before .args .reader) piece)) (l .slots) (l .count) (l .taken) (l .next) piece fed (omega (arith, c .before .before .before .before .before .before .loop-test .taken)) (l .inv .4) (l .inv .5) (c .before .before .before .before .feed .ensures)
+    ends-with (passedFor (passing room (c .before .before .before .before .before .before .before .before .before .args .reader) piece)) (l .slots) (l .count) (l .taken) (l .next) piece fed (omega (arith, c .before .before .before .before .before .before .loop-test .taken)) (l .inv .4) (l .inv .5) (c .before .before .before .before .feed .ensures)
     0 (λ on. ap (λ h. passOn h fed on) (c .enum-told .given .1))
 
--- src/pieces.rt:49:28
 enum-known-heard : tie.Need-enum-known-heard Inv-loop μ-loop
 enum-known-heard c = c .match .keys2
 
--- src/pieces.rt:50:17
 returns-2 : tie.Need-returns-2 Inv-loop μ-loop
 returns-2 c =
     let l = c .before .before .before .before .before .before .before .before .loop in
     let fed = c .before .before .before .before .before .feed .result in
     let piece = c .before .before .before .before .before .before .before .before .before .before .args .piece .now in
-    ends-with (passedFor (passing 32 (c .before .before .before .before .before .before .before .before .before .before .args .reader) piece)) (l .slots) (l .count) (l .taken) (l .next) piece fed (omega (arith, c .before .before .before .before .before .before .before .loop-test .taken)) (l .inv .4) (l .inv .5) (c .before .before .before .before .before .feed .ensures)
+    ends-with (passedFor (passing room (c .before .before .before .before .before .before .before .before .before .before .args .reader) piece)) (l .slots) (l .count) (l .taken) (l .next) piece fed (omega (arith, c .before .before .before .before .before .before .before .loop-test .taken)) (l .inv .4) (l .inv .5) (c .before .before .before .before .before .feed .ensures)
     _ (λ on. ap (λ h. passOn h fed on) (c .before .heard .given .1))
 
--- src/pieces.rt:59:32
 enum-told-2 : tie.Need-enum-told-2 Inv-loop μ-loop
 enum-told-2 c = c .match .keys3
 
--- src/pieces.rt:59:17
 mul-slots : tie.Need-mul-slots Inv-loop μ-loop
 mul-slots c = omega (arith, c .before .before .before .before .before .before .loop-test .taken)
 
--- src/pieces.rt:59:17
 array-set-from-slots : tie.Need-array-set-from-slots Inv-loop μ-loop
 array-set-from-slots c = omega (arith, c .before .before .before .before .before .before .loop-test .taken)
 
--- src/pieces.rt:60:17
 add-count : tie.Need-add-count Inv-loop μ-loop
 add-count c = omega (arith, c .before .before .before .before .before .before .loop-test .taken)
 
--- src/pieces.rt:34:5
 loop-less : tie.Need-loop-less Inv-loop μ-loop
 loop-less c = omega (arith, c .before .before .before .before .before .before .loop-test .taken)
 
--- src/pieces.rt:34:5
 loop-again : tie.Need-loop-again Inv-loop μ-loop
 loop-again c =
     let l = c .before .before .before .before .before .before .before .loop in
     let fed = c .before .before .before .before .feed .result in
     let piece = c .before .before .before .before .before .before .before .before .before .args .piece .now in
     let rest = take (length piece - l .taken) (drop (l .taken) piece) in
-    let room : l .count < 32 = omega (arith, c .before .before .before .before .before .before .loop-test .taken) in (
+    let free : l .count < room = omega (arith, c .before .before .before .before .before .before .loop-test .taken) in (
       refl,
       omega (arith, ap (λ f. f .taken) (c .before .before .before .before .feed .ensures), feed-fits (l .next) rest, length-take (length piece - l .taken) (drop (l .taken) piece), length-drop (l .taken) piece, l .inv .1),
-      omega (arith, room),
+      omega (arith, free),
       length-set (l .slots) (l .count) (slotOf (fed .heard)) ∙ l .inv .3,
-      still-empty (l .slots) (l .count) (slotOf (fed .heard)) room (l .inv .4),
-      goes-on (passedFor (passing 32 (c .before .before .before .before .before .before .before .before .before .args .reader) piece)) (l .slots) (l .count) (l .taken) (l .next) piece fed room (l .inv .4) (l .inv .5) (c .before .before .before .before .feed .ensures) (c .enum-told2 .given .1) (l .inv .3),
+      still-empty (l .slots) (l .count) (slotOf (fed .heard)) free (l .inv .4),
+      goes-on (passedFor (passing room (c .before .before .before .before .before .before .before .before .before .args .reader) piece)) (l .slots) (l .count) (l .taken) (l .next) piece fed free (l .inv .4) (l .inv .5) (c .before .before .before .before .feed .ensures) (c .enum-told2 .given .1) (l .inv .3),
     )
 
--- src/pieces.rt:24:1
 returns-3 : tie.Need-returns-3 Inv-loop μ-loop
 returns-3 c =
     let l = c .before .loop in

@@ -9,6 +9,7 @@ use lib.Seq.{paste, paste-zero, paste-suc}
 use borrow.Author.Tests.{ltb-true, ltb-false, not-true, not-false}
 use native.Mathlib.Numerals.{add-one}
 use Rattle.line.specs.Runs.{roomyRun}
+use Rattle.line.specs.Line.{places}
 use Rattle.line.proofs.RunLaws.{run-end, run-byte, run-full}
 use Rattle.line.proofs.runs.gather.Statement.{statement}
 use Rattle.line.proofs.runs.gather.Tie as tie
@@ -56,7 +57,7 @@ loop-again c =
     let held = c .before .before .before .before .before .before .before .args .held in
     let len = c .before .before .before .before .before .before .before .args .len in
     let l = c .before .before .before .before .before .loop in
-    let size : length held ≡ 24 = omega (arith, c .before .before .before .before .before .before .before .good) in
+    let size : length held ≡ places = omega (arith, c .before .before .before .before .before .before .before .good) in
     let more = ltb-true (l .at) (length piece) (c .before .before .before .if1 .taken) in
     let here =
     run-byte piece (l .at) (l .end) (c .before .before .before .before .loop-test .taken) more
