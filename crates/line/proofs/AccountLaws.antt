@@ -9,10 +9,9 @@ use lib.Dec.{eqb, leb}
 use lib.ListN.{length, length-append}
 use borrow.Author.Tests.{leb-true}
 use Rattle.refusals.specs.Refusals.{refused}
-use Rattle.telegram.specs.Reading.{readOf}
 use Rattle.ascii.specs.Control.{stx, etx}
 use Rattle.line.specs.declared.Heard.{Heard}
-use Rattle.line.specs.Line.{places, longest, Line, Told, nothing, event, heldAfter, toldBy, strayBy, step, startOf, freshLine, freshReader, readerOf, toldByEnd, heardFor, feedReader, endReader}
+use Rattle.line.specs.Line.{places, longest, judgement, Line, Told, nothing, event, heldAfter, toldBy, strayBy, step, startOf, freshLine, freshReader, toldByEnd, heardFor, feedReader, endReader}
 use Rattle.line.specs.Cuts.{tells, eventsOf, lineAfter, heardThen, feeding, bytesServed}
 use Rattle.line.specs.Account.{eventSize, lengthsOf, straysOf, sizesOf}
 use Rattle.line.specs.Sentences.{TheAccountHolds, TheAccountHoldsAfterTheEnd}
@@ -26,7 +25,7 @@ begins false = refl
 
 goes-on : (held : List ℕ) (byte : ℕ) (is-etx is-stx is-full : Bool) → leb places (length held) ≡ is-full → length held ≤ places
     → length held + 1
-    ≡ eventSize (cond is-etx (event (readOf true (held ++ etx ∷ [])) (length held + 1)) (cond is-stx (event (refused 9) (length held)) (cond is-full (event (refused 10) longest) nothing)))
+    ≡ eventSize (cond is-etx (event (judgement held) (length held + 1)) (cond is-stx (event (refused 9) (length held)) (cond is-full (event (refused 10) longest) nothing)))
     + 0
     + length (cond is-etx [] (cond is-stx (stx ∷ []) (cond is-full [] (held ++ byte ∷ []))))
 goes-on held byte true is-stx is-full e fits = omega arith

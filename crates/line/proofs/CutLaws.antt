@@ -9,7 +9,7 @@ use native.Mathlib.Omega.{arith}
 use lib.ListN.{length, drop, length-drop}
 use Rattle.line.specs.declared.Reader.{Reader}
 use Rattle.line.specs.declared.Heard.{Heard}
-use Rattle.line.specs.Line.{Line, Told, nothing, event, Feeding, stopOr, feedOf, toldBy, step, startOf, readerOf, lineOf, heardFor, fedFor, freshLine, freshReader, wellFormed, AsDeclared, feedReader}
+use Rattle.line.specs.Line.{Line, Told, nothing, event, Feeding, stopOr, feedOf, toldBy, step, startOf, readerOf, lineOf, heardFor, fedFor, freshLine, feedReader}
 use Rattle.line.specs.Cuts.{tells, eventsOf, lineAfter, Calls, heardThen, calledFor, feeding, joined, callsOf, Served, bytesServed, heardOf, readerBehind, AllUsedUp, serve}
 use Rattle.line.specs.Sentences.{TakesSome, UsesUpAnyCut, TellsTheLine, FeedingTellsTheLine, SameByAnyCut, CutIndependence}
 use Rattle.line.proofs.ReaderLaws.{reader-back}

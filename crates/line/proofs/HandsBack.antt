@@ -13,14 +13,13 @@ use Rattle.record.specs.declared.Record.{Record}
 use Rattle.record.specs.declared.RecordAnswer.{RecordAnswer}
 use Rattle.record.specs.declared.RecordAnswer.the-variants as answer
 use Rattle.record.specs.Rule.{refusalOf}
-use Rattle.telegram.specs.Reading.{readOf}
 use Rattle.telegram.specs.Writing.{bodyBytes, telegramOf}
 use Rattle.telegram.proofs.BackAndForth.{written-reads-back}
 use Rattle.ascii.specs.Control.{stx, etx}
 use Rattle.line.specs.declared.Reader.{Reader}
 use Rattle.line.specs.declared.Heard.{Heard}
 use Rattle.line.specs.declared.Heard.the-variants.{Nothing, Event, Refused}
-use Rattle.line.specs.Line.{lineWith, Line, answerFor, readerOf, freshLine, freshReader, endReader}
+use Rattle.line.specs.Line.{lineWith, judgement, Line, answerFor, readerOf, freshLine, freshReader, endReader}
 use Rattle.line.specs.Cuts.{eventsOf, lineAfter, Calls, Served, bytesServed, heardOf, readerBehind, AllUsedUp}
 use Rattle.line.specs.SentLine.{Sent, bytesSent, noStx, allGood, eventsSent, straySent}
 use Rattle.line.proofs.FeedLaws.{outside}
@@ -45,7 +44,7 @@ module _ (rec : Record) (none : refusalOf rec ≡ 0) (fed stray : ℕ) where
 
   ends : Gives (lineWith (stx ∷ body) (fed + 1 + size) stray) (etx ∷ []) (Event (answer.Good rec) (fed % 2 ^ 32) (suc (size + 1)) ∷ []) (outside (fed + 1 + size + 1) stray)
   ends =
-      let judged : answerFor (readOf true ((stx ∷ body) ++ etx ∷ [])) ≡ answer.Good rec = ap answerFor (written-reads-back rec none true) in
+      let judged : answerFor (judgement (stx ∷ body)) ≡ answer.Good rec = ap answerFor (written-reads-back rec none true) in
       let fits = body-fits rec in
       let start : (fed + 1 + size + (2 ^ 32 - suc size)) % 2 ^ 32 ≡ fed % 2 ^ 32 = omega (arith, fits) in
       let count : suc size + 1 ≡ suc (size + 1) = omega arith in

@@ -14,11 +14,10 @@ use Rattle.record.specs.declared.Record.{Record}
 use Rattle.record.specs.declared.RecordAnswer.{RecordAnswer}
 use Rattle.record.specs.declared.RecordAnswer.the-variants as answer
 use Rattle.record.specs.Answers.{recordAnswer}
-use Rattle.telegram.specs.Reading.{readOf}
 use Rattle.ascii.specs.Control.{stx, etx}
 use Rattle.line.specs.declared.Reader.{Reader}
 use Rattle.line.specs.declared.Heard.the-variants.{Nothing, Event}
-use Rattle.line.specs.Line.{places, longest, lineWith, readerWith, isPlain, event, Feeding, feedOf, startOf, readerOf, lineOf, wellFormed, answerFor, fedFor, feedReader}
+use Rattle.line.specs.Line.{places, longest, judgement, lineWith, readerWith, isPlain, event, Feeding, feedOf, startOf, readerOf, lineOf, wellFormed, answerFor, fedFor, feedReader}
 use Rattle.line.specs.Runs.{roomyRun}
 use Rattle.line.proofs.Forms.{taken-length, start-stays, padding}
 use Rattle.line.proofs.RunLaws.{Within, run-within, run-ends}
@@ -32,9 +31,9 @@ stopped held fed stray next outcome size =
 
 module _ (fed stray : ℕ) (rest : List ℕ) where
   pub at-etx : (held : List ℕ) → 0 < length held
-      → feedOf (lineWith held fed stray) (etx ∷ rest) ≡ stopped held fed stray [] (readOf true (held ++ etx ∷ [])) (length held + 1)
+      → feedOf (lineWith held fed stray) (etx ∷ rest) ≡ stopped held fed stray [] (judgement held) (length held + 1)
   at-etx [] some = absurd (omega arith)
-  at-etx (first ∷ held) some = λ i. stopped (first ∷ held) fed (add-zero stray i) [] (readOf true ((first ∷ held) ++ etx ∷ [])) (length (first ∷ held) + 1)
+  at-etx (first ∷ held) some = λ i. stopped (first ∷ held) fed (add-zero stray i) [] (judgement (first ∷ held)) (length (first ∷ held) + 1)
 
   pub at-stx : (held : List ℕ) → 0 < length held
       → feedOf (lineWith held fed stray) (stx ∷ rest) ≡ stopped held fed stray (stx ∷ []) (refused 9) (length held)
@@ -149,7 +148,7 @@ module _ (reader : Reader) (piece : List ℕ) (size : length (reader .held) ≡ 
 
   pub told-etx : added < length piece → getD piece added 0 ≡ etx
       → feedOf (lineWith gathered (reader .fed + added) (reader .stray)) (drop added piece)
-      ≡ stopped gathered (reader .fed + added) (reader .stray) [] (readOf true (gathered ++ etx ∷ [])) (length gathered + 1)
+      ≡ stopped gathered (reader .fed + added) (reader .stray) [] (judgement gathered) (length gathered + 1)
   told-etx more e =
       ap (feedOf (lineWith gathered (reader .fed + added) (reader .stray))) (behind etx more e)
       ∙ at-etx (reader .fed + added) (reader .stray) (drop (suc added) piece) gathered gathered-some

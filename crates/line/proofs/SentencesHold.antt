@@ -1,18 +1,18 @@
 -- Document 01's sentences on the line hold, but for the account (AccountLaws) and the cuts (CutLaws, UsesUp). Assumes nothing.
-use mathlib.Core.Path.{_≡_, refl, ap, sym, _∙_, subst⁻¹}
+use mathlib.Core.Path.{_≡_, refl, ap, sym, _∙_}
 use mathlib.Core.List.{List, [], _∷_}
 use Prim.Native.Nat.{ℕ, zero, suc, _+_, _-_, _≤_}
 use native.Mathlib.Numerals.{add-one}
 use native.Mathlib.Omega.{arith}
 use lib.ListN.{length, take}
 use Rattle.line.specs.declared.Heard.{Heard}
-use Rattle.line.specs.declared.Heard.the-variants.{Nothing, Event}
-use Rattle.line.specs.Line.{Line, Told, nothing, event, Feeding, stopOr, feedOf, toldBy, step, startOf, readerOf, lineOf, freshLine, heardFor, fedFor, wellFormed, feedReader, endReader}
-use Rattle.line.specs.Cuts.{tells, eventsOf, lineAfter, heardThen}
+use Rattle.line.specs.declared.Heard.the-variants.{Nothing}
+use Rattle.line.specs.Line.{Line, Told, nothing, event, Feeding, stopOr, feedOf, toldBy, step, startOf, readerOf, lineOf, freshLine, heardFor, wellFormed, feedReader, endReader}
+use Rattle.line.specs.Cuts.{tells, eventsOf, heardThen}
 use Rattle.line.specs.Pieces.{room, passing}
-use Rattle.line.specs.Sentences.{AFreshOneHoldsNone, AGoodStateStaysGood, OneByteGivesAtMostOneEvent, StopsAfterTheFirstEvent, ACallStopsAfterTheFirstEvent, AnEmptyPieceGivesNothing, TheEndLeavesItOutside}
+use Rattle.line.specs.Sentences.{AFreshOneHoldsNone, AGoodStateStaysGood, OneByteGivesAtMostOneEvent, ACallStopsAfterTheFirstEvent, AnEmptyPieceGivesNothing, TheEndLeavesItOutside}
 use Rattle.line.proofs.ReaderLaws.{reader-back}
-use Rattle.line.proofs.StaysGood.{Good, good-line, reader-of-good, feed-stays-good, end-stays-good}
+use Rattle.line.proofs.StaysGood.{good-line, reader-of-good, feed-stays-good, end-stays-good}
 use Rattle.line.proofs.CutLaws.{good-fresh}
 use Rattle.line.proofs.UsesUp.{taken-line, passing-splits}
 

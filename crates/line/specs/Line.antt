@@ -42,7 +42,11 @@ pub data Told : Type 0 where
   nothing : Told
   event : Outcome Record → ℕ → Told
 
--- "outside a telegram STX begins one; any other byte is stray and counted"; "inside, ETX ends it and it is judged. STX gives 9 for
+-- "inside, ETX ends it and it is judged"
+abbrev pub judgement : List ℕ → Outcome Record
+judgement held = readOf true (held ++ etx ∷ [])
+
+-- "outside a telegram STX begins one; any other byte is stray and counted"; "inside, ETX ends it ... STX gives 9 for
 -- the bytes held and begins a new telegram with itself. Any other byte is held, but if 24 are already held it gives 10, belongs to
 -- the refused telegram (25 bytes), and the reader is outside"
 abbrev pub heldAfter : List ℕ → ℕ → List ℕ
@@ -55,7 +59,7 @@ heldAfter (first ∷ held) byte =
 abbrev pub toldBy : List ℕ → ℕ → Told
 toldBy [] byte = nothing
 toldBy (first ∷ held) byte =
-    cond (eqb byte etx) (event (readOf true ((first ∷ held) ++ etx ∷ [])) (length (first ∷ held) + 1))
+    cond (eqb byte etx) (event (judgement (first ∷ held)) (length (first ∷ held) + 1))
     (cond (eqb byte stx) (event (refused 9) (length (first ∷ held)))
     (cond (leb places (length (first ∷ held))) (event (refused 10) longest) nothing))
 

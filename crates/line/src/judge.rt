@@ -3,14 +3,10 @@ use super::PLACES;
 use record::RecordAnswer;
 use telegram::ETX;
 ghost use mathlib.Core.Path.{_≡_};
-ghost use mathlib.Core.Bool.{true};
-ghost use mathlib.Core.List.{[], _∷_, _++_};
 ghost use Prim.Native.Nat.{min};
 ghost use lib.ListN.{take};
 ghost use Rattle.record.specs.Answers.{recordAnswer};
-ghost use Rattle.telegram.specs.Reading.{readOf};
-ghost use Rattle.ascii.specs.Control.{etx};
-ghost use Rattle.line.specs.Line.{places};
+ghost use Rattle.line.specs.Line.{places, judgement};
 
 fn capped(len: usize) -> usize
     ensures { λ r. ⌜ r ≡ min len places ⌝ }
@@ -23,7 +19,7 @@ fn capped(len: usize) -> usize
 
 // Reads the first `len` bytes held, with ETX behind them.
 pub(crate) fn judge(held: [u8; PLACES], len: usize) -> RecordAnswer
-    ensures { λ r. ⌜ recordAnswer r ≡ readOf true (take len held ++ etx ∷ []) ⌝ }
+    ensures { λ r. ⌜ recordAnswer r ≡ judgement (take len held) ⌝ }
 {
     let size = capped(len);
     let mut whole = [0u8; PLACES + 1];

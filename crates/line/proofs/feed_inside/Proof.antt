@@ -1,18 +1,16 @@
 -- `line::feed_inside` meets its contract.
 use native.Mathlib.Omega.{arith}
 use mathlib.Core.Path.{_≡_, refl, ap, ap₂, sym, _∙_}
-use mathlib.Core.Bool.{true}
-use mathlib.Core.List.{[], _∷_, _++_}
+use mathlib.Core.List.{[], _∷_}
 use Prim.Native.Nat.{_+_, _<_, _%_, _^_}
 use lib.ListN.{length, length-map, take, getD}
 use Rattle.refusals.specs.Refusals.{refused}
-use Rattle.telegram.specs.Reading.{readOf}
 use Rattle.line.specs.declared.Heard.the-variants.{Nothing}
-use Rattle.line.specs.Line.{places, longest, readerWith, answerFor}
+use Rattle.line.specs.Line.{places, longest, judgement, readerWith, answerFor}
 use Rattle.line.proofs.ReaderLaws.{well}
 use Rattle.line.proofs.Inside.{added, gathered, gathered-size, added-fits, inside-holds, stops-with, told-etx, told-stx, told-full, judged, answered}
 use borrow.Author.Needs.{needs}
-use Rattle.ascii.specs.Control.{stx, etx}
+use Rattle.ascii.specs.Control.{stx}
 use Rattle.line.proofs.feed_inside.Statement.{statement}
 use Rattle.line.proofs.feed_inside.Tie as tie
 
@@ -116,11 +114,11 @@ returns-2 c =
     let more : added reader piece size good some < length piece = omega (arith, n, added-fits reader piece size good some .1) in
     let is-etx = ap (λ k. getD piece k 0) (sym n) ∙ c .before .before .if2 .taken in
     let bytes = ap₂ (λ k all. take (reader .len + k) all) n (c .before .before .before .before .before .before .before .before .gather .ensures .1) ∙ judged reader piece size good some in
-    stops-with reader piece size good some [] (readOf true (gathered reader piece size good some ++ etx ∷ [])) (length (gathered reader piece size good some) + 1) (omega arith) (told-etx reader piece size good some more is-etx) _ _ _ _ _
+    stops-with reader piece size good some [] (judgement (gathered reader piece size good some)) (length (gathered reader piece size good some) + 1) (omega arith) (told-etx reader piece size good some more is-etx) _ _ _ _ _
     (c .outside .ensures)
     (c .before .before .before .moved2 .ensures)
     n
-    (answered (c .before .judge .result) ∙ ap answerFor (c .before .judge .ensures ∙ ap (λ held. readOf true (held ++ etx ∷ [])) bytes))
+    (answered (c .before .judge .result) ∙ ap answerFor (c .before .judge .ensures ∙ ap judgement bytes))
     (omega (arith, n, gathered-size reader piece size good some))
 
 begun-requires : tie.Need-begun-requires

@@ -7,13 +7,13 @@ use Prim.Native.Nat.{_+_, _-_, _≤_}
 use lib.ListN.{length, length-set, take, getD}
 use Rattle.telegram.specs.Reading.{readOf}
 use Rattle.ascii.specs.Control.{etx}
-use Rattle.line.specs.Line.{places, longest}
+use Rattle.line.specs.Line.{places}
 use Rattle.line.proofs.Copies.{copy-step, closed}
 use Rattle.line.proofs.judge.judge.Statement.{statement}
 use Rattle.line.proofs.judge.judge.Tie as tie
 
 abbrev Inv-loop : tie.InvT-loop
-Inv-loop len held size whole₀ at₀ whole at = (at ≤ size) × (length whole ≡ longest) × (take at whole ≡ take at held)
+Inv-loop len held size whole₀ at₀ whole at = (at ≤ size) × (length whole ≡ places + 1) × (take at whole ≡ take at held)
 
 abbrev μ-loop : tie.MeasureT-loop
 μ-loop len held size whole₀ at₀ whole at = size - at
