@@ -10,7 +10,7 @@ use lib.ListN.{length, drop, length-drop}
 use Rattle.line.specs.declared.Reader.{Reader}
 use Rattle.line.specs.declared.Heard.{Heard}
 use Rattle.line.specs.Line.{Line, Told, nothing, event, Feeding, stopOr, feedOf, toldBy, step, startOf, readerOf, lineOf, heardFor, fedFor, freshLine, feedReader}
-use Rattle.line.specs.Cuts.{tells, eventsOf, lineAfter, Calls, heardThen, calledFor, feeding, joined, callsOf, Served, bytesServed, heardOf, readerBehind, AllUsedUp, serve}
+use Rattle.line.specs.Cuts.{tells, eventsOf, lineAfter, Calls, heardThen, calledFor, feeding, callsThen, callsOf, Served, bytesServed, heardOf, readerBehind, AllUsedUp, serve}
 use Rattle.line.specs.Sentences.{TakesSome, UsesUpAnyCut, TellsTheLine, FeedingTellsTheLine, SameByAnyCut, CutIndependence}
 use Rattle.line.proofs.ReaderLaws.{reader-back}
 use Rattle.line.proofs.StaysGood.{Good, good-step, good-feed, good-line, feed-good}
@@ -47,7 +47,7 @@ pub record Splits (line : Line) (piece : List ℕ) (called : Calls) : Type 0 whe
   pub after : lineAfter line piece ≡ lineAfter left (called .rest)
 
 pub split-on : {line : Line} {piece : List ℕ} (first later : Calls) (here : Splits line piece first) → Splits (here .left) (first .rest) later
-    → Splits line piece (joined first later)
+    → Splits line piece (callsThen first later)
 split-on first later here on =
     record {
       left = on .left;
@@ -95,7 +95,7 @@ pub some-by : (told : Told) (start : ℕ) (next : Line) (on : Feeding) → 0 < s
 some-by nothing start next on = omega arith
 some-by (event outcome size) start next on = omega arith
 
-shorter : (line : Line) (piece : List ℕ) (n : ℕ) → length piece ≤ suc n → length (drop (feedOf line piece .taken) piece) ≤ n
+pub shorter : (line : Line) (piece : List ℕ) (n : ℕ) → length piece ≤ suc n → length (drop (feedOf line piece .taken) piece) ≤ n
 shorter line [] n h = omega arith
 shorter line (byte ∷ piece) n h =
     omega (

@@ -42,13 +42,13 @@ abbrev pub feeding : (Reader → List ℕ → Fed) → Reader → List ℕ → C
 feeding feed reader piece = calledFor (feed reader piece) piece
 
 -- a caller's loop after so many calls on one piece, whatever it calls
-abbrev pub joined : Calls → Calls → Calls
-joined first later = record { reader = later .reader; rest = later .rest; heard = first .heard ++ later .heard }
+abbrev pub callsThen : Calls → Calls → Calls
+callsThen first later = record { reader = later .reader; rest = later .rest; heard = first .heard ++ later .heard }
 
 abbrev pub callsOf : (Reader → List ℕ → Calls) → ℕ → Reader → List ℕ → Calls
 callsOf call zero reader piece = record { reader = reader; rest = piece; heard = [] }
 callsOf call (suc n) reader piece =
-    joined (call reader piece) (callsOf call n (call reader piece .reader) (call reader piece .rest))
+    callsThen (call reader piece) (callsOf call n (call reader piece .reader) (call reader piece .rest))
 
 -- a line in pieces, each with the number of calls made on it
 pub record Served : Type 0 where

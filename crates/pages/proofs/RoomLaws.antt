@@ -15,17 +15,17 @@ use Rattle.record.specs.declared.Record.{Record}
 use Rattle.record.specs.declared.Record.the-variants.{Dated, TimeOnly}
 use Rattle.line.specs.declared.Reader.{Reader}
 use Rattle.line.specs.declared.Heard.{Heard}
-use Rattle.line.specs.Line.{Line, Told, nothing, event, Feeding, stopOr, feedOf, toldBy, step, startOf, readerOf, heardFor, fedFor, freshReader}
+use Rattle.line.specs.Line.{Line, Told, nothing, event, Feeding, stopOr, feedOf, toldBy, step, startOf, readerOf, heardFor, fedFor, freshLine, freshReader}
 use Rattle.line.specs.Cuts.{eventsOf}
-use Rattle.line.proofs.StaysGood.{Good, good-feed, reader-of-good}
-use Rattle.line.proofs.CutLaws.{feed-splits, some-by, shorter, good-fresh, fresh-is}
+use Rattle.line.proofs.StaysGood.{Good, good-feed, feed-good, reader-of-good}
+use Rattle.line.proofs.CutLaws.{feed-parts, some-by, shorter, good-fresh}
 use Rattle.listing.proofs.RowLaws.{dated-short, time-short, refused-short}
 use Rattle.pages.specs.declared.Ending.{Ending}
 use Rattle.pages.specs.declared.Ending.the-variants as ending
 use Rattle.pages.specs.Pages.{rowFor, within, Page, rowThen, pageBy, pageOf}
 use Rattle.pages.specs.Whole.{rowOfEvent, rowsOf, turnsWith, lentWith, AllListed, EveryCutCanBeListed, endingIn}
 use Rattle.pages.proofs.PageLaws.{page-good}
-use Rattle.pages.proofs.WholeLaws.{Sound, sound-feed, row-told, rows-then, fed-as, GoesOn, call-continues, turns-continue}
+use Rattle.pages.proofs.WholeLaws.{Sound, sound-feed, row-told, rows-then, GoesOn, call-continues, turns-continue}
 
 -- what the first row needs and what the rest needs, in one room
 ends-by : (room : ℕ) (row rows : List ℕ) (short : Bool) → ltb room (length row) ≡ short
@@ -63,12 +63,12 @@ page-ends-by-room (suc calls) room line good (byte ∷ piece) enough =
     let later : ℕ → Page = λ size. pageBy calls (room - size) (readerOf (feeding .line)) rest in
     let on = page-ends-by-room calls (room - length row) (feeding .line) (good-feed line whole good) rest (shorter line whole calls enough) in
     let short = ltb room (length row) in
-    ap (λ fed. rowThen (within room (rowFor (fed .heard))) (readerOf line) fed (λ size. pageBy calls (room - size) (fed .reader) (drop (fed .taken) whole)) .ending) (fed-as line good whole)
+    ap (λ fed. rowThen (within room (rowFor (fed .heard))) (readerOf line) fed (λ size. pageBy calls (room - size) (fed .reader) (drop (fed .taken) whole)) .ending) (feed-good line good whole)
     ∙ ap (λ outcome. rowThen (within room outcome) (readerOf line) (fedFor feeding) later .ending) (row-told (feeding .told) (feeding .at) (sound-feed line whole))
     ∙ row-ends room row (readerOf line) line whole later short
     ∙ ap (cond short (ending.Refused 13)) on
     ∙ ends-by room row (rowsOf (eventsOf (feeding .line) rest)) short refl
-    ∙ ap (endingIn room) (sym (ap rowsOf (feed-splits line whole .0) ∙ rows-then heard (eventsOf (feeding .line) rest)))
+    ∙ ap (endingIn room) (sym (ap rowsOf (feed-parts line whole .0) ∙ rows-then heard (eventsOf (feeding .line) rest)))
 
 pub call-ends-by-room : (room : ℕ) (line : Line) → Good line → (piece : List ℕ) → pageOf room (readerOf line) piece .ending ≡ endingIn room (rowsOf (eventsOf line piece))
 call-ends-by-room room line good piece =
@@ -105,7 +105,7 @@ takes-some room enough calls line good byte piece =
     let feeding = feedOf line whole in
     let heard = heardFor (feeding .told) (feeding .at) in
     let later : ℕ → Page = λ size. pageBy calls (room - size) (readerOf (feeding .line)) (drop (feeding .taken) whole) in
-    subst⁻¹ (λ fed. 0 < rowThen (within room (rowFor (fed .heard))) (readerOf line) fed (λ size. pageBy calls (room - size) (fed .reader) (drop (fed .taken) whole)) .taken) (fed-as line good whole)
+    subst⁻¹ (λ fed. 0 < rowThen (within room (rowFor (fed .heard))) (readerOf line) fed (λ size. pageBy calls (room - size) (fed .reader) (drop (fed .taken) whole)) .taken) (feed-good line good whole)
     (subst⁻¹ (λ outcome. 0 < rowThen (within room outcome) (readerOf line) (fedFor feeding) later .taken) (row-told (feeding .told) (feeding .at) (sound-feed line whole))
     (taken-by room (rowOfEvent heard) (readerOf line) line byte piece later
     (omega (arith, row-short (feeding .told) (feeding .at) (at-fits line whole) (sound-feed line whole)))))
@@ -144,4 +144,4 @@ all-listed room enough (piece ∷ pieces) line reader good is =
     )
 
 pub every-cut-can-be-listed : EveryCutCanBeListed
-every-cut-can-be-listed room enough pieces = all-listed room enough pieces _ freshReader good-fresh fresh-is
+every-cut-can-be-listed room enough pieces = all-listed room enough pieces freshLine freshReader good-fresh refl

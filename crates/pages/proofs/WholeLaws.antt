@@ -8,6 +8,7 @@ use native.Mathlib.Omega.{arith}
 use lib.Dec.{leb, ltb, eqb}
 use lib.ListN.{length, drop, replicate}
 use lib.Seq.{drop-drop, take-at}
+use Rattle.ascii.specs.Control.{stx, etx}
 use Rattle.refusals.specs.Refusals.{Outcome, done, refused}
 use Rattle.refusals.proofs.Laws.{does}
 use Rattle.record.specs.declared.Record.{Record}
@@ -18,11 +19,10 @@ use Rattle.line.specs.declared.Reader.{Reader}
 use Rattle.line.specs.declared.Fed.{Fed}
 use Rattle.line.specs.declared.Heard.{Heard}
 use Rattle.line.specs.declared.Heard.the-variants.{Nothing, Event, Refused}
-use Rattle.line.specs.Line.{Line, Told, nothing, event, Feeding, stopOr, feedOf, toldBy, toldByEnd, step, startOf, readerOf, heardFor, fedFor, freshLine, freshReader, feedReader, endReader}
+use Rattle.line.specs.Line.{places, Line, Told, nothing, event, Feeding, stopOr, feedOf, toldBy, toldByEnd, step, startOf, readerOf, heardFor, fedFor, freshLine, freshReader, feedReader, endReader}
 use Rattle.line.specs.Cuts.{eventsOf, lineAfter, heardThen}
-use Rattle.line.proofs.Wraps.{feed-reader}
-use Rattle.line.proofs.StaysGood.{Good, good-feed, reader-of-good}
-use Rattle.line.proofs.CutLaws.{feed-splits, events-join, after-join, good-after, good-fresh, fresh-is}
+use Rattle.line.proofs.StaysGood.{Good, good-feed, feed-good, end-good, reader-of-good}
+use Rattle.line.proofs.CutLaws.{feed-parts, events-join, after-join, good-after, good-fresh}
 use Rattle.listing.specs.Listing.{headerRow, recordRow, strayRow}
 use Rattle.pages.specs.declared.Ending.{Ending}
 use Rattle.pages.specs.declared.Ending.the-variants as ending
@@ -50,7 +50,7 @@ sound-inside bytes size held longest false false false = tt
 
 sound-told : (held : List ℕ) (byte : ℕ) → Sound (toldBy held byte)
 sound-told [] byte = tt
-sound-told (first ∷ held) byte = sound-inside _ _ _ _ (eqb byte 3) (eqb byte 2) (leb 24 (length (first ∷ held)))
+sound-told (first ∷ held) byte = sound-inside _ _ _ _ (eqb byte etx) (eqb byte stx) (leb places (length (first ∷ held)))
 
 stop-sound : (told : Told) (start : ℕ) (next : Line) (on : Feeding) → Sound told → Sound (on .told) → Sound (stopOr told start next on .told)
 stop-sound nothing start next on here later = later
@@ -67,7 +67,7 @@ row-told nothing at sound = refl
 row-told (event (done rec) size) at sound = does (recordRow at rec) sound
 row-told (event (refused n) size) at sound = refl
 
-pub rows-then : (heard : Heard) (later : List Heard) → rowsOf (heardThen heard later) ≡ rowOfEvent heard ++ rowsOf later
+pub rows-then : (heard : Heard) (later : List Heard) → rowsOf (heardThen heard [] ++ later) ≡ rowOfEvent heard ++ rowsOf later
 rows-then Nothing later = refl
 rows-then (Event answer start size) later = refl
 rows-then (Refused number) later = refl
@@ -90,9 +90,6 @@ Continues line piece page = GoesOn line piece (page .bytes) (page .reader) (drop
 stays : (line : Line) (piece : List ℕ) (end : Ending) → Good line → Continues line piece (stopped (readerOf line) end)
 stays line piece end good = record { next = line; good = good; is = refl; rows = refl; ends = refl }
 
-pub fed-as : (line : Line) → Good line → (piece : List ℕ) → feedReader (readerOf line) piece ≡ fedFor (feedOf line piece)
-fed-as line good piece = feed-reader (line .held) (line .fed) (line .stray) (good .fits) (good .started) piece
-
 -- one row more, where it fits
 module _ (line : Line) (good : Good line) (piece : List ℕ) (room : ℕ) (later : ℕ → Page)
     (on : (size : ℕ) → Continues (feedOf line piece .line) (drop (feedOf line piece .taken) piece) (later size)) where
@@ -105,7 +102,7 @@ module _ (line : Line) (good : Good line) (piece : List ℕ) (room : ℕ) (later
       let row = rowOfEvent heard in
       let size = length row in
       let taken = feedOf line piece .taken in
-      let splits = feed-splits line piece in
+      let splits = feed-parts line piece in
       let left = drop-drop (later size .taken) taken piece in
       record {
         next = on size .next;
@@ -134,7 +131,7 @@ page-continues (suc calls) room line good (byte ∷ piece) =
     let feeding = feedOf line (byte ∷ piece) in
     let rest = drop (feeding .taken) (byte ∷ piece) in
     subst⁻¹ (λ fed. Continues line (byte ∷ piece) (rowThen (within room (rowFor (fed .heard))) (readerOf line) fed (λ size. pageBy calls (room - size) (fed .reader) (drop (fed .taken) (byte ∷ piece)))))
-    (fed-as line good (byte ∷ piece))
+    (feed-good line good (byte ∷ piece))
     (row-continues line good (byte ∷ piece) room (λ size. pageBy calls (room - size) (readerOf (feeding .line)) rest) (λ size. page-continues calls (room - size) (feeding .line) (good-feed line (byte ∷ piece) good) rest))
 
 pub call-continues : (room : ℕ) (line : Line) → Good line → (piece : List ℕ) → Continues line piece (pageOf room (readerOf line) piece)
@@ -184,16 +181,10 @@ line-listed (lent ∷ others) line reader good is used =
       on .1 ∙ ap readerOf (sym (after-join line (lent .piece) (bytesLent others))),
     )
 
-pub end-heard : (line : Line) → Good line → endReader (readerOf line) .heard ≡ lastHeard line
-unfolding endReader
-end-heard line good =
-    rw (reader-of-good line good)
-    (ap (λ held. heardFor (toldByEnd held) (startOf line)) (take-at (line .held) (replicate (24 - length (line .held)) 0) (length (line .held)) refl))
-
 pub what-is-laid : WhatIsLaidIsTheListing
 unfolding listingOf
 what-is-laid lents used =
-    let all = line-listed lents freshLine freshReader good-fresh fresh-is used in
+    let all = line-listed lents freshLine freshReader good-fresh refl used in
     let line = lineAfter freshLine (bytesLent lents) in
     ap₂ (λ rows reader. headerRow ++ rows ++ rowOfEvent (endReader reader .heard) ++ strayRow (reader .stray)) (all .0) (all .1)
-    ∙ ap (λ heard. headerRow ++ rowsOf (eventsOf freshLine (bytesLent lents)) ++ rowOfEvent heard ++ strayRow (readerOf line .stray)) (end-heard line (good-after freshLine (bytesLent lents) good-fresh))
+    ∙ ap (λ heard. headerRow ++ rowsOf (eventsOf freshLine (bytesLent lents)) ++ rowOfEvent heard ++ strayRow (readerOf line .stray)) (ap (λ ended. ended .heard) (end-good line (good-after freshLine (bytesLent lents) good-fresh)))

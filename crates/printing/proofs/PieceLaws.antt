@@ -7,7 +7,7 @@ use native.Mathlib.Omega.{arith}
 use lib.ListN.{length, take, drop, length-drop}
 use lib.Seq.{take-all, drop-drop}
 use Rattle.line.specs.declared.Reader.{Reader}
-use Rattle.line.specs.Line.{Line, readerOf, lineOf, wellFormed}
+use Rattle.line.specs.Line.{places, Line, readerOf, lineOf, wellFormed}
 use Rattle.line.specs.Cuts.{lineAfter}
 use Rattle.line.proofs.ReaderLaws.{reader-back}
 use Rattle.line.proofs.StaysGood.{Good, good-line}
@@ -24,7 +24,7 @@ pub record Follows (whole reader : Reader) (rest : List ℕ) : Type 0 where
   pub is : reader ≡ readerOf line
   pub ends : whole ≡ readerOf (lineAfter line rest)
 
-pub begins : (reader : Reader) (piece : List ℕ) → wellFormed reader ≡ true → length (reader .held) ≡ 24 → reader .fed < 2 ^ 32 → reader .stray < 2 ^ 32
+pub begins : (reader : Reader) (piece : List ℕ) → wellFormed reader ≡ true → length (reader .held) ≡ places → reader .fed < 2 ^ 32 → reader .stray < 2 ^ 32
     → Follows (afterPiece reader piece) reader piece
 begins reader piece good size fed stray =
     record { line = lineOf reader; good = good-line reader size good; is = sym (reader-back reader good size fed stray); ends = refl }

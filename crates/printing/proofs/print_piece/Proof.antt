@@ -5,6 +5,7 @@ use borrow.Author.Tests.{not-true, not-false}
 use mathlib.Core.Path.{_≡_, sym, _∙_}
 use Prim.Native.Nat.{ℕ, _-_, _≤_}
 use lib.ListN.{length, drop, length-map, drop-of-length-le}
+use Rattle.line.specs.Line.{places}
 use Rattle.printing.specs.Printing.{afterPiece}
 use Rattle.printing.proofs.PieceLaws.{Follows, begins, over, fits, turn, some-taken}
 use Rattle.printing.proofs.PrintedLaws.{is-refused, is-handed}
@@ -27,7 +28,7 @@ loop-holds : tie.Need-loop-holds Inv-loop μ-loop
 loop-holds c =
     let reader = c .before .before .before .args .reader in
     let good = sym (c .before .is-well-formed .ensures) ∙ not-false _ (c .if1 .left) in
-    let size : length (reader .held) ≡ 24 = sym (length-map (reader .held) (λ x. x)) ∙ c .before .before .before .good .0 .1 .1 .0 .1 .0 .1 in
+    let size : length (reader .held) ≡ places = sym (length-map (reader .held) (λ x. x)) ∙ c .before .before .before .good .0 .1 .1 .0 .1 .0 .1 in
     (omega arith, begins reader (c .before .before .before .args .piece .now) good size (omega (arith, c .before .before .before .good)) (omega (arith, c .before .before .before .good)))
 
 sub-print-page : tie.Need-sub-print-page Inv-loop μ-loop
