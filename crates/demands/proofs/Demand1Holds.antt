@@ -1,7 +1,7 @@
 -- Demand 1 holds. Assumes nothing.
 use mathlib.Core.Path.{_≡_, refl, ap, sym, _∙_}
 use mathlib.Core.Bool.{Bool, true, false, not, _||_}
-use mathlib.Core.List.{List, [], _∷_, _++_}
+use mathlib.Core.List.{List, [], _∷_, _++_, map}
 use Prim.Native.Nat.{ℕ, zero, suc, _+_, _-_, _≤_}
 use native.Mathlib.Omega.{arith}
 use lib.Dec.{leb, ltb, eqb}
@@ -19,6 +19,7 @@ use Rattle.record.specs.Season.{calendarSeconds, seasonShift, isOutside, toUtc}
 use Rattle.record.specs.Rule.{refusalOf}
 use Rattle.record.specs.Next.{nextSecondOf}
 use Rattle.record.specs.Utc.{countOf, utcSeconds}
+use Rattle.places.specs.Places.{fixedHolds, decimalHolds, codeHolds, every, faultOf, foundIn}
 use Rattle.layouts.specs.declared.Layout.{Layout}
 use Rattle.layouts.specs.Layouts.{layoutOf}
 use Rattle.telegram.specs.declared.write.Choice.{Choice}
@@ -33,10 +34,12 @@ use Rattle.clock.specs.Answers.{stepAnswer}
 use Rattle.clock.proofs.StepLaws.{refused-is-unchanged}
 use Rattle.board.specs.Switches.{byteOf}
 use Rattle.board.specs.Of6036.{offered, switchesFor, byteFor}
-use Rattle.demands.specs.Numbers.{_givenWhen_, _refusedBy_}
-use Rattle.demands.specs.Rules.{dateRules, recordRules, rulesIn, readingRules, nextSecondRules, writingRules, countRules, utcRules, stepRules}
-use Rattle.demands.specs.Demand1.{ReadingRefuses, WritingRefuses, WritingOneMoreRefuses, TheFirstRefusalEndsIt, TheRuleRefuses, TheNextSecondRefuses, CountingRefuses, TheSeasonShiftRefuses, UtcSecondsRefuse, TheStepRefuses, TheParameterByteRefuses, TheCalendarRefuses, ARefusedTelegramChangesNoByte, ARefusedOneMoreChangesNoByte, ARefusedClockComesBackUnchanged}
+use Rattle.demands.specs.Lengths.{sevenLayouts, lengthOf}
+use Rattle.demands.specs.Numbers.{_givenWhen_, firstOf, among, _refusedBy_}
+use Rattle.demands.specs.Rules.{placeRules, dateRules, recordRules, rulesIn, readingRules, nextSecondRules, writingRules, countRules, utcRules, stepRules}
+use Rattle.demands.specs.Demand1.{ReadingRefuses, TheLayoutRefuses, ScanningRefuses, WritingRefuses, WritingOneMoreRefuses, TheFirstRefusalEndsIt, TheRuleRefuses, TheNextSecondRefuses, CountingRefuses, TheSeasonShiftRefuses, UtcSecondsRefuse, TheStepRefuses, TheParameterByteRefuses, TheCalendarRefuses, ARefusedTelegramChangesNoByte, ARefusedOneMoreChangesNoByte, ARefusedClockComesBackUnchanged}
 use Rattle.demands.proofs.Refusing.{else-nothing, by-lowest, unless-by, tested, refuses, gives}
+use Rattle.demands.proofs.TableLengths.{found}
 use Rattle.demands.proofs.RulesHold.{record-rules, next-second-rules, reading-rules, writing-rules, count-rules, utc-rules, step-rules}
 
 -- one telegram read
@@ -66,6 +69,22 @@ writing-tested (Named setting) (Dated layout status weekday date time) room = re
 writing-tested (Named setting) (TimeOnly layout time) room = refl
 writing-tested Unnamed (Dated layout status weekday date time) room = refl
 writing-tested Unnamed (TimeOnly layout time) room = refl
+
+pub demand-1-layout : TheLayoutRefuses
+demand-1-layout body =
+    by-lowest (layoutOf body) (1 givenWhen not (among (map (lengthOf false) sevenLayouts) (length body)) ∷ []) refl (found body)
+
+-- none of the rules of places gives a number twice
+fault-first : (characters decimals codes : Bool)
+    → faultOf characters decimals codes ≡ firstOf (3 givenWhen not characters ∷ 4 givenWhen not decimals ∷ 5 givenWhen not codes ∷ [])
+fault-first characters decimals codes =
+    ap (λ n. 3 when not characters else (4 when not decimals else n)) (sym (else-nothing (5 when not codes)))
+
+pub demand-1-scanning : ScanningRefuses
+unfolding foundIn
+demand-1-scanning row bytes =
+    gives (3 ∷ 4 ∷ 5 ∷ []) (foundIn row bytes .fault) (placeRules row bytes)
+    (fault-first (every fixedHolds row bytes) (every decimalHolds row bytes) (every codeHolds row bytes)) refl
 
 pub demand-1-writing : WritingRefuses
 demand-1-writing choice rec room =

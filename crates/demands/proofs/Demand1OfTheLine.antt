@@ -22,11 +22,11 @@ use Rattle.line.specs.Line.{Line, Told, nothing, event, Feeding, toldBy, toldBy
 use Rattle.line.specs.Pieces.{Passing, passOn, passing}
 use Rattle.line.proofs.ReaderLaws.{well, feed-refused, end-refused}
 use Rattle.line.proofs.StaysGood.{Good, started-stays, good-line, good-feed, reader-of-good}
-use Rattle.demands.specs.Numbers.{Rule, _givenWhen_, among, _doneOr_, _silentOr_, EachSilentOr}
+use Rattle.demands.specs.Numbers.{Rule, _givenWhen_, among, _doneOr_, _silentOr_, EachSilentOr, firstOf}
 use Rattle.demands.specs.Lengths.{sevenLayouts, lengthOf}
 use Rattle.demands.specs.Rules.{recordRules, rulesIn}
 use Rattle.demands.specs.Demand1.{onTheLine, FeedingRefuses, UsingUpRefuses, TheEndRefuses, ARefusedStateComesBackUnchanged}
-use Rattle.demands.proofs.Refusing.{firstOf, tested, refuses}
+use Rattle.demands.proofs.Refusing.{tested, refuses}
 use Rattle.demands.proofs.RulesHold.{reading-rules}
 
 -- what is told to a line is an event with one of the numbers, or nothing

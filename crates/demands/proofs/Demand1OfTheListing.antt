@@ -11,11 +11,21 @@ use Rattle.record.specs.declared.Record.the-variants.{Dated, TimeOnly}
 use Rattle.record.specs.declared.RecordAnswer.{RecordAnswer}
 use Rattle.record.specs.declared.RecordAnswer.the-variants as answer
 use Rattle.record.specs.Rule.{refusalOf}
-use Rattle.listing.specs.Listing.{recordRow, refusedRow, eventRow, laid}
-use Rattle.demands.specs.Numbers.{_givenWhen_}
-use Rattle.demands.specs.Rules.{recordRules, rowRules}
-use Rattle.demands.specs.Demand1.{ARowRefuses, ARefusedRowChangesNoByte}
-use Rattle.demands.proofs.Refusing.{else-nothing, unless-by, then-by, _byFirst_, tested, refuses}
+use Rattle.line.specs.declared.Heard.{Heard}
+use Rattle.line.specs.Line.{Line, wellFormed, lineOf}
+use Rattle.line.specs.Cuts.{eventsOf}
+use Rattle.line.proofs.ReaderLaws.{reader-back}
+use Rattle.line.proofs.StaysGood.{good-line}
+use Rattle.listing.specs.Listing.{headerRow, recordRow, refusedRow, eventRow, strayRow, laid}
+use Rattle.pages.specs.declared.Ending.the-variants as ending
+use Rattle.pages.specs.Pages.{rowFor, pageOf}
+use Rattle.pages.specs.Whole.{rowsOf, endingIn}
+use Rattle.pages.proofs.PageLaws.{nothing-laid, refused-laid, page-refused}
+use Rattle.pages.proofs.RoomLaws.{call-ends-by-room}
+use Rattle.demands.specs.Numbers.{_givenWhen_, _refusedBy_, _byFirst_}
+use Rattle.demands.specs.Rules.{recordRules}
+use Rattle.demands.specs.Demand1OfTheListing.{rowRules, roomRules, TheHeaderRefuses, TheStrayLineRefuses, ARowRefuses, ARowForRefuses, ListingRefuses, ARefusedRowChangesNoByte, ARefusedStateIsNotListed}
+use Rattle.demands.proofs.Refusing.{else-nothing, by-lowest, unless-by, then-by, tested, refuses}
 use Rattle.demands.proofs.RulesHold.{record-rules}
 
 -- a row is laid where there is room for it
@@ -37,6 +47,16 @@ room-rule : (row buffer : List ℕ) → sized buffer row byFirst 13 givenWhen lt
 room-rule row buffer =
     let short = 13 when ltb (length buffer) (length row) in
     unless-by short (length row) (13 givenWhen ltb (length buffer) (length row) ∷ []) (sym (else-nothing short))
+
+room-holds : (row buffer : List ℕ) → laid (done row) buffer .0 refusedBy roomRules (length buffer) row
+room-holds row buffer =
+    by-lowest (laid (done row) buffer .0) (roomRules (length buffer) row) refl (ap (λ o. after o (λ v. done tt)) (answer-so (done row) buffer) ∙ room-rule row buffer)
+
+pub demand-1-header : TheHeaderRefuses
+demand-1-header buffer = room-holds headerRow buffer
+
+pub demand-1-stray-line : TheStrayLineRefuses
+demand-1-stray-line stray buffer = room-holds (strayRow stray) buffer
 
 row-rules : (start : ℕ) (told : RecordAnswer) (buffer : List ℕ) → laid (eventRow start told) buffer .0 byFirst rowRules start told (length buffer)
 row-rules start (answer.Good rec) buffer =
@@ -68,3 +88,28 @@ demand-1-no-byte-of-a-row start told buffer n = go (eventRow start told)
     go : (row : Outcome (List ℕ)) → laid row buffer .0 ≡ refused n → laid row buffer .1 ≡ buffer
     go (done row) e = laid-or-not row (ltb (length buffer) (length row)) e
     go (refused k) e = refl
+
+-- the row of what was heard
+pub demand-1-row-for : ARowForRefuses
+demand-1-row-for heard buffer = (
+    (λ is. ap (λ p. p .0) (nothing-laid buffer is)),
+    (λ told start size is. ap (λ h. laid (rowFor h) buffer .0) is),
+    (λ n is. ap (λ p. p .0) (refused-laid buffer is)),
+  )
+
+-- a piece
+pub demand-1-listing : ListingRefuses
+demand-1-listing room reader piece declared = go (wellFormed reader) refl
+  where
+    line : Line
+    line = lineOf reader
+
+    go : (good : Bool) → wellFormed reader ≡ good
+        → pageOf room reader piece .ending ≡ cond good (endingIn room (rowsOf (eventsOf line piece))) (ending.Refused 15)
+    go true e =
+        ap (λ r. pageOf room r piece .ending) (sym (reader-back reader e (declared .0) (declared .1) (declared .2)))
+        ∙ call-ends-by-room room line (good-line reader (declared .0) e) piece
+    go false e = ap (λ page. page .ending) (page-refused room reader piece e)
+
+pub demand-1-not-listed : ARefusedStateIsNotListed
+demand-1-not-listed room reader piece bad = page-refused room reader piece bad

@@ -9,24 +9,11 @@ use borrow.Author.Tests.{leb-true, leb-false}
 use Rattle.refusals.specs.Refusals.{_when_, _else_, Outcome, done, refused, unless, after}
 use Rattle.refusals.proofs.Laws.{both, else-assoc}
 use Rattle.places.specs.Places.{lower}
-use Rattle.demands.specs.Numbers.{Rule, _givenWhen_, lowest, _refusedBy_, among, _doneOr_, _noneOr_}
+use Rattle.demands.specs.Numbers.{Rule, _givenWhen_, lowest, firstOf, allFrom, inOrder, TheFirstIsTheLowest, _refusedBy_, _byFirst_, among, _doneOr_, _noneOr_}
 
 pub else-nothing : (n : ℕ) → (n else 0) ≡ n
 else-nothing zero = refl
 else-nothing (suc n) = refl
-
--- the first rule that holds: the lowest, where rules stand in the order of their numbers
-abbrev pub firstOf : List Rule → ℕ
-firstOf [] = 0
-firstOf (n givenWhen holds ∷ rules) = n when holds else firstOf rules
-
-abbrev allFrom : ℕ → List Rule → Bool
-allFrom n [] = true
-allFrom n (m givenWhen holds ∷ rules) = leb n m && allFrom n rules
-
-abbrev pub inOrder : List Rule → Bool
-inOrder [] = true
-inOrder (n givenWhen holds ∷ rules) = allFrom n rules && inOrder rules
 
 -- none, or a number from n on
 abbrev From : ℕ → ℕ → Type 0
@@ -44,7 +31,7 @@ first-from n (m givenWhen holds ∷ rules) e =
     go (suc k) true le later = le
     go k false le later = later
 
-first-is-lowest : (rules : List Rule) → inOrder rules ≡ true → firstOf rules ≡ lowest rules
+pub first-is-lowest : TheFirstIsTheLowest
 first-is-lowest [] e = refl
 first-is-lowest (n givenWhen holds ∷ rules) e =
     let parts = both (allFrom n rules) (inOrder rules) e in
@@ -62,11 +49,7 @@ first-of-both [] second = refl
 first-of-both (n givenWhen holds ∷ first) second =
     ap (λ later. n when holds else later) (first-of-both first second) ∙ else-assoc (n when holds) (firstOf first) (firstOf second)
 
--- refused by the first rule that holds; what a number refuses, rules refuse that give that number
-infix 10 _byFirst_
-abbrev pub _byFirst_ : {A : Type 0} → Outcome A → List Rule → Type 0
-_byFirst_ outcome rules = after outcome (λ value. done tt) ≡ unless {A = Unit {0}} (firstOf rules) tt
-
+-- what a number refuses, rules refuse that give that number
 pub by-lowest : {A : Type 0} (outcome : Outcome A) (rules : List Rule) → inOrder rules ≡ true → outcome byFirst rules → outcome refusedBy rules
 by-lowest outcome rules order by = by ∙ ap (λ n. unless n tt) (first-is-lowest rules order)
 

@@ -29,10 +29,10 @@ use Rattle.clock.specs.Stepping.{stepOf}
 use Rattle.clock.specs.Answers.{stepAnswer}
 use Rattle.clock.proofs.StepLaws.{lowest-first}
 use Rattle.demands.specs.Lengths.{sevenLayouts, lengthOf}
-use Rattle.demands.specs.Numbers.{Rule, _givenWhen_, among}
+use Rattle.demands.specs.Numbers.{Rule, _givenWhen_, among, firstOf, _byFirst_}
 use Rattle.demands.specs.Rules.{recordRules, rulesIn, readingRules, nextSecondRules, writingRules, countRules, isBeforeUtc, utcRules, stepRules}
 use Rattle.demands.proofs.TableLengths.{telegram-length, found, length-in-table}
-use Rattle.demands.proofs.Refusing.{else-nothing, firstOf, first-of-both, _byFirst_, unless-by, then-by}
+use Rattle.demands.proofs.Refusing.{else-nothing, first-of-both, unless-by, then-by}
 
 -- the rule for a record
 pub record-rules : (rec : Record) → refusalOf rec ≡ firstOf (recordRules rec)

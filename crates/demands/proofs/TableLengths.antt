@@ -18,8 +18,7 @@ use Rattle.telegram.specs.Reading.{bodyOf}
 use Rattle.telegram.specs.Writing.{telegramOf}
 use Rattle.telegram.proofs.WriteLaws.{length-body, length-framed}
 use Rattle.demands.specs.Lengths.{sevenLayouts, lengthIn, lengthOf}
-use Rattle.demands.specs.Numbers.{_givenWhen_, among}
-use Rattle.demands.proofs.Refusing.{_byFirst_}
+use Rattle.demands.specs.Numbers.{_givenWhen_, among, _byFirst_}
 
 two-more : (layout : Layout) → length (placesOf layout) + 2 ≡ lengthIn layout
 unfolding placesOf

@@ -3,7 +3,7 @@
 -- Each entry point promises, with no condition, to end and to answer with the definition that is named here (docs/PROMISES.md).
 -- Here stands for each when it refuses (its rules, of which the lowest that holds is given), and so with which numbers.
 use mathlib.Core.Bool.{Bool, true, false, not}
-use mathlib.Core.List.{List, [], _∷_, _++_}
+use mathlib.Core.List.{List, [], _∷_, _++_, map}
 use mathlib.Core.Path.{_≡_}
 use Prim.Native.Nat.{ℕ, _-_}
 use lib.Dec.{leb}
@@ -33,15 +33,28 @@ use Rattle.clock.specs.Stepping.{stepOf}
 use Rattle.clock.specs.Answers.{stepAnswer}
 use Rattle.board.specs.declared.of_6036.Parameter.{Parameter}
 use Rattle.board.specs.Of6036.{offered, byteFor}
-use Rattle.listing.specs.Listing.{eventRow, laid}
-use Rattle.demands.specs.Numbers.{_givenWhen_, lowest, _refusedBy_, _doneOr_, _noneOr_, _silentOr_, EachSilentOr}
-use Rattle.demands.specs.Rules.{dateRules, recordRules, readingRules, nextSecondRules, writingRules, countRules, shiftRules, utcRules, stepRules, rowRules}
+use Rattle.places.specs.Places.{Place, foundIn}
+use Rattle.layouts.specs.Layouts.{layoutOf}
+use Rattle.demands.specs.Lengths.{sevenLayouts, lengthOf}
+use Rattle.demands.specs.Numbers.{_givenWhen_, lowest, among, _refusedBy_, _doneOr_, _noneOr_, _silentOr_, EachSilentOr}
+use Rattle.demands.specs.Rules.{placeRules, dateRules, recordRules, readingRules, nextSecondRules, writingRules, countRules, shiftRules, utcRules, stepRules}
 
 -- one telegram read: 1 to 8
 abbrev pub ReadingRefuses : Type 0
 ReadingRefuses =
     (control : Bool) (bytes : List ℕ)
     → (readOf control bytes refusedBy readingRules control bytes) × (readOf control bytes doneOr 1 ∷ 2 ∷ 3 ∷ 4 ∷ 5 ∷ 6 ∷ 7 ∷ 8 ∷ [])
+
+-- the layout of a body: 1
+abbrev pub TheLayoutRefuses : Type 0
+TheLayoutRefuses =
+    (body : List ℕ) → layoutOf body refusedBy 1 givenWhen not (among (map (lengthOf false) sevenLayouts) (length body)) ∷ []
+
+-- the places of any row, seen in any bytes: 3, 4 and 5
+abbrev pub ScanningRefuses : Type 0
+ScanningRefuses =
+    (row : List Place) (bytes : List ℕ)
+    → (foundIn row bytes .fault ≡ lowest (placeRules row bytes)) × (foundIn row bytes .fault noneOr 3 ∷ 4 ∷ 5 ∷ [])
 
 -- one telegram written, with any setting or none, into a buffer of any length: 5 to 8, 12, 13, 14
 abbrev pub WritingRefuses : Type 0
@@ -114,13 +127,6 @@ TheEndRefuses = (reader : Reader) → wellFormed reader ≡ true → endReader r
 abbrev pub TheParameterByteRefuses : Type 0
 TheParameterByteRefuses = (setting : Parameter) → byteFor setting refusedBy 16 givenWhen not (offered setting) ∷ []
 
--- a row of the listing, into a buffer of any length: 5 to 8, 13
-abbrev pub ARowRefuses : Type 0
-ARowRefuses =
-    (start : ℕ) (told : RecordAnswer) (buffer : List ℕ)
-    → (laid (eventRow start told) buffer .0 refusedBy rowRules start told (length buffer))
-    × (laid (eventRow start told) buffer .0 doneOr 5 ∷ 6 ∷ 7 ∷ 8 ∷ 13 ∷ [])
-
 -- the calendar: a date's day number 6, 7; the date of a day number 12; the day after 6, 7, 12; the length of a month 6; the second of
 -- the day 6; the next second of the day 6
 abbrev pub TheCalendarRefuses : Type 0
@@ -144,12 +150,6 @@ abbrev pub ARefusedOneMoreChangesNoByte : Type 0
 ARefusedOneMoreChangesNoByte =
     (choice : Choice) (several : Several) (rec : Record) (buffer : List ℕ) → (severalAfter choice several rec buffer .refusal ≡ 0 → ⊥)
     → bufferAfter choice several rec buffer ≡ buffer
-
--- nor does a refused row of the listing
-abbrev pub ARefusedRowChangesNoByte : Type 0
-ARefusedRowChangesNoByte =
-    (start : ℕ) (told : RecordAnswer) (buffer : List ℕ) (n : ℕ) → laid (eventRow start told) buffer .0 ≡ refused n
-    → laid (eventRow start told) buffer .1 ≡ buffer
 
 -- "a refused state .. comes back unchanged": with 15, and "takes no byte, gives no event and nothing else"
 abbrev pub ARefusedStateComesBackUnchanged : Type 0

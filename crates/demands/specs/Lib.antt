@@ -2,6 +2,7 @@ pub mod Lengths
 pub mod Numbers
 pub mod Rules
 pub mod Demand1
+pub mod Demand1OfTheListing
 pub mod Demand2
 pub mod Demand3
 pub mod Programs

@@ -1,10 +1,10 @@
 -- What an entry point may answer: the words in which demand 1 is stated.
-use mathlib.Core.Bool.{Bool, true, false, _||_}
+use mathlib.Core.Bool.{Bool, true, false, _&&_, _||_}
 use mathlib.Core.List.{List, [], _∷_}
 use mathlib.Core.Path.{_≡_}
 use Prim.Native.Nat.{ℕ, zero, suc}
-use lib.Dec.{eqb}
-use Rattle.refusals.specs.Refusals.{_when_, Outcome, done, refused, unless, after}
+use lib.Dec.{leb, eqb}
+use Rattle.refusals.specs.Refusals.{_when_, _else_, Outcome, done, refused, unless, after}
 use Rattle.places.specs.Places.{lower}
 use Rattle.record.specs.Answers.{recordAnswer}
 use Rattle.line.specs.declared.Heard.{Heard}
@@ -20,10 +20,33 @@ abbrev pub lowest : List Rule → ℕ
 lowest [] = 0
 lowest (n givenWhen holds ∷ rules) = lower (n when holds) (lowest rules)
 
+-- the first rule that holds, for orders that are not those of the numbers; 0 where none does
+abbrev pub firstOf : List Rule → ℕ
+firstOf [] = 0
+firstOf (n givenWhen holds ∷ rules) = n when holds else firstOf rules
+
+-- rules in the order of their numbers
+abbrev pub allFrom : ℕ → List Rule → Bool
+allFrom n [] = true
+allFrom n (m givenWhen holds ∷ rules) = leb n m && allFrom n rules
+
+abbrev pub inOrder : List Rule → Bool
+inOrder [] = true
+inOrder (n givenWhen holds ∷ rules) = allFrom n rules && inOrder rules
+
+-- there the first that holds is the lowest that holds
+abbrev pub TheFirstIsTheLowest : Type 0
+TheFirstIsTheLowest = (rules : List Rule) → inOrder rules ≡ true → firstOf rules ≡ lowest rules
+
 -- the work is done, unless one of the rules refuses it: then it is refused with the lowest number whose rule holds
 infix 10 _refusedBy_
 abbrev pub _refusedBy_ : {A : Type 0} → Outcome A → List Rule → Type 0
 _refusedBy_ outcome rules = after outcome (λ value. done tt) ≡ unless {A = Unit {0}} (lowest rules) tt
+
+-- the same with the first number whose rule holds
+infix 10 _byFirst_
+abbrev pub _byFirst_ : {A : Type 0} → Outcome A → List Rule → Type 0
+_byFirst_ outcome rules = after outcome (λ value. done tt) ≡ unless {A = Unit {0}} (firstOf rules) tt
 
 -- the work is done, or refused with one of these numbers
 abbrev pub among : List ℕ → ℕ → Bool

@@ -5,15 +5,13 @@ use Prim.Native.Nat.{ℕ, _+_, _*_}
 use lib.Dec.{ltb}
 use lib.ListN.{length}
 use Rattle.refusals.specs.Refusals.{Outcome, done, refused}
-use Rattle.places.specs.Places.{fixedHolds, decimalHolds, codeHolds, every}
+use Rattle.places.specs.Places.{Place, fixedHolds, decimalHolds, codeHolds, every}
 use Rattle.calendar.specs.Ranges.{inside}
 use Rattle.calendar.specs.Calendar.{dateInRange, dayExists, dayOf}
 use Rattle.calendar.specs.TimeOfDay.{timeInRange, secondsOf}
 use Rattle.calendar.specs.declared.date.Date.{Date}
 use Rattle.record.specs.declared.Record.{Record}
 use Rattle.record.specs.declared.Record.the-variants.{Dated, TimeOnly}
-use Rattle.record.specs.declared.RecordAnswer.{RecordAnswer}
-use Rattle.record.specs.declared.RecordAnswer.the-variants as answer
 use Rattle.record.specs.declared.season.LocalSeconds.{LocalSeconds}
 use Rattle.record.specs.Season.{seasonShift}
 use Rattle.record.specs.Rule.{statusAllowed, weekdayAllowed, weekdayAgrees, carriesDate}
@@ -23,7 +21,6 @@ use Rattle.layouts.specs.Layouts.{placesOf, ownLayout, layoutOf}
 use Rattle.telegram.specs.declared.write.Choice.{Choice}
 use Rattle.telegram.specs.declared.write.Choice.the-variants.{Named, Unnamed}
 use Rattle.telegram.specs.Reading.{bodyOf, framed, carried}
-use Rattle.listing.specs.Listing.{recordRow, refusedRow}
 use Rattle.demands.specs.Lengths.{sevenLayouts, lengthOf}
 use Rattle.demands.specs.Numbers.{Rule, _givenWhen_, among}
 
@@ -41,6 +38,15 @@ recordRules (Dated layout status weekday date time) =
     ∷ 8 givenWhen not (weekdayAgrees weekday date)
     ∷ []
 recordRules (TimeOnly layout time) = 6 givenWhen not (timeInRange time) ∷ []
+
+-- the places of a row: 3 "a space, CR or LF of the layout isn't in its place", 4 "a decimal place holds no 0 to 9", 5 a status or
+-- weekday character that is none
+abbrev pub placeRules : List Place → List ℕ → List Rule
+placeRules row bytes =
+    3 givenWhen not (every fixedHolds row bytes)
+    ∷ 4 givenWhen not (every decimalHolds row bytes)
+    ∷ 5 givenWhen not (every codeHolds row bytes)
+    ∷ []
 
 -- reading, once the layout is found: 2 "control characters wanted, first isn't STX or last isn't ETX", 3 "a space, CR or LF of the
 -- layout isn't in its place", 4 "a decimal place holds no 0 to 9", 5 a status or weekday character that is none, then the record's
@@ -93,8 +99,3 @@ utcRules rec = recordRules rec ++ 12 givenWhen isBeforeUtc rec ∷ 14 givenWhen 
 -- a step of the station clock: the next second's, and "a time-only record gives 14 here"
 abbrev pub stepRules : Record → List Rule
 stepRules rec = recordRules rec ++ 12 givenWhen isLastOfCalendar rec ∷ 14 givenWhen not (carriesDate rec) ∷ []
-
--- a row of the listing: a record's own, and 13 "the lent buffer is shorter than what is to be written"
-abbrev pub rowRules : ℕ → RecordAnswer → ℕ → List Rule
-rowRules start (answer.Good rec) room = recordRules rec ++ 13 givenWhen ltb room (length (recordRow start rec)) ∷ []
-rowRules start (answer.Refused number) room = 13 givenWhen ltb room (length (refusedRow start number)) ∷ []
