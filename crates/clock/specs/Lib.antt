@@ -1,3 +1,4 @@
 pub mod Stepping
 pub mod Answers
 pub mod Running
+pub mod AsPrinted

@@ -1,0 +1,58 @@
+-- What document 01 says of the station clock, in literal records, and the one statement over them.
+use mathlib.Core.Bool.{true, false}
+use mathlib.Core.List.{List, [], _∷_}
+use mathlib.Core.Path.{_≡_}
+use Prim.Native.Nat.{ℕ}
+use Rattle.calendar.specs.declared.date.Date.{Date}
+use Rattle.calendar.specs.declared.time.Time.{Time}
+use Rattle.record.specs.declared.DatedLayout.the-variants.{L6021}
+use Rattle.record.specs.declared.TimeLayout.the-variants.{T6021}
+use Rattle.record.specs.declared.Reception.the-variants.{Radio}
+use Rattle.record.specs.declared.Status.{Status}
+use Rattle.record.specs.declared.Record.{Record}
+use Rattle.record.specs.declared.Record.the-variants.{Dated, TimeOnly}
+use Rattle.clock.specs.declared.StepAnswer.{StepAnswer}
+use Rattle.clock.specs.declared.StepAnswer.the-variants.{Stepped, Refused}
+use Rattle.clock.specs.Stepping.{stepOf}
+
+-- a row: the clock's record, the record after one step, and what the step tells
+pub data Row : Type 0 where
+  stepIs : Record → Record → StepAnswer → Row
+
+abbrev pub Holds : Row → Type 0
+Holds (stepIs rec next answer) = stepOf (record { rec = rec }) ≡ record { clock = record { rec = next }; answer = answer }
+
+abbrev pub EveryRowHolds : List Row → Type 0
+EveryRowHolds [] = Unit {0}
+EveryRowHolds (row ∷ rows) = Holds row × EveryRowHolds rows
+
+-- the words of the table
+abbrev pub date : ℕ → ℕ → ℕ → Date
+date year month day = record { year = year; month = month; day = day }
+
+abbrev pub time : ℕ → ℕ → ℕ → Time
+time hour minute second = record { hour = hour; minute = minute; second = second }
+
+abbrev pub standardTime : Status
+standardTime = record { reception = Radio; daylight = false; utc = false; announced = false }
+
+abbrev pub daylightAnnounced : Status
+daylightAnnounced = record { reception = Radio; daylight = true; utc = false; announced = true }
+
+-- A record: layout, status, weekday, date, time
+abbrev pub asPrinted : List Row
+asPrinted =
+    -- "stepped by one second", "date and weekday included"
+    stepIs (Dated L6021 standardTime 5 (date 1999 12 31) (time 23 59 59)) (Dated L6021 standardTime 6 (date 2000 1 1) (time 0 0 0)) Stepped
+    -- "stepping does not change the season": nor where summer ends
+    ∷ stepIs (Dated L6021 daylightAnnounced 7 (date 1996 10 27) (time 2 59 59)) (Dated L6021 daylightAnnounced 7 (date 1996 10 27) (time 3 0 0)) Stepped
+    ∷ stepIs (Dated L6021 standardTime 7 (date 1996 10 27) (time 2 59 59)) (Dated L6021 standardTime 7 (date 1996 10 27) (time 3 0 0)) Stepped
+    -- "refused with 5 to 8, 12 or 14 it is unchanged": a Wednesday told as a Thursday, the calendar's last second, a time-only record
+    ∷ stepIs (Dated L6021 standardTime 4 (date 1996 1 3) (time 12 34 56)) (Dated L6021 standardTime 4 (date 1996 1 3) (time 12 34 56)) (Refused 8)
+    ∷ stepIs (Dated L6021 standardTime 7 (date 2079 12 31) (time 23 59 59)) (Dated L6021 standardTime 7 (date 2079 12 31) (time 23 59 59)) (Refused 12)
+    ∷ stepIs (TimeOnly T6021 (time 12 34 56)) (TimeOnly T6021 (time 12 34 56)) (Refused 14)
+    ∷ []
+
+-- one statement over the table
+abbrev pub StepsAreAsPrinted : Type 0
+StepsAreAsPrinted = EveryRowHolds asPrinted
