@@ -13,4 +13,5 @@ pub mod UsesUp
 pub mod AccountLaws
 pub mod SentLaws
 pub mod HandsBack
+pub mod PositionLaws
 pub mod SentencesHold

@@ -46,7 +46,7 @@ pub data Told : Type 0 where
 abbrev pub judgement : List ℕ → Outcome Record
 judgement held = readOf true (held ++ etx ∷ [])
 
--- "outside a telegram STX begins one; any other byte is stray and counted"; "inside, ETX ends it ... STX gives 9 for
+-- "outside a telegram STX begins one; any other byte is stray and counted"; "inside, ETX ends it .. STX gives 9 for
 -- the bytes held and begins a new telegram with itself. Any other byte is held, but if 24 are already held it gives 10, belongs to
 -- the refused telegram (25 bytes), and the reader is outside"
 abbrev pub heldAfter : List ℕ → ℕ → List ℕ

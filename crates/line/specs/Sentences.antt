@@ -3,11 +3,11 @@ use mathlib.Core.Bool.{true}
 use mathlib.Core.List.{List, [], map}
 use mathlib.Core.Path.{_≡_}
 use Prim.Native.Nat.{ℕ, _+_, _-_, _%_, _^_, _≤_, _<_}
-use lib.ListN.{length, take}
+use lib.ListN.{length, take, drop}
 use Rattle.line.specs.declared.Reader.{Reader}
 use Rattle.line.specs.declared.Fed.{Fed}
 use Rattle.line.specs.declared.Heard.the-variants.{Nothing}
-use Rattle.line.specs.Line.{Line, readerOf, lineOf, freshLine, freshReader, wellFormed, AsDeclared, feedReader, endReader}
+use Rattle.line.specs.Line.{Line, startOf, readerOf, lineOf, freshLine, freshReader, wellFormed, AsDeclared, feedReader, endReader}
 use Rattle.line.specs.Cuts.{eventsOf, lineAfter, Calls, heardThen, feeding, Served, bytesServed, heardOf, readerBehind, AllUsedUp, serve, heardFrom, readerAfter, UsedUp}
 use Rattle.line.specs.Pieces.{room, passing, usingUp}
 use Rattle.line.specs.Account.{sizesOf, lengthsOf, straysOf}
@@ -56,6 +56,15 @@ TheEndLeavesItOutside =
     × (endReader reader .reader .fed ≡ reader .fed)
     × (endReader reader .reader .stray ≡ reader .stray)
     × (endReader reader .reader .start ≡ reader .fed)
+
+-- "each event carries the position of its first byte": the bytes held are the last ones fed, and the start position, which an event
+-- carries, is where they begin
+abbrev pub TheStartIsWhereTheHeldBegin : Type 0
+TheStartIsWhereTheHeldBegin =
+    (bytes : List ℕ)
+    → let line = lineAfter freshLine bytes in
+    let start = length bytes - length (line .held) in
+    (drop start bytes ≡ line .held) × (startOf line ≡ start % 2 ^ 32)
 
 -- "from a fresh reader on, fed equals event lengths plus stray plus held, with that wrap; the first two sums are defined from the bytes",
 -- and they are the lengths of the events that were heard and the reader's stray count

@@ -2,7 +2,6 @@
 use native.Mathlib.Omega.{arith}
 use borrow.Author.Needs.{needs}
 use mathlib.Core.Path.{_≡_, refl, ap, _∙_}
-use mathlib.Core.Bool.{true}
 use Prim.Native.Nat.{_+_, _-_, _≤_}
 use lib.ListN.{length, length-set, take, getD}
 use Rattle.telegram.specs.Reading.{readOf}
@@ -69,7 +68,7 @@ returns c =
     let held = c .before .before .before .before .before .before .args .t1 in
     let l = c .before .before .before .before .loop in
     let size : length held ≡ places = omega (arith, c .before .before .before .before .before .before .good) in
-    c .read .ensures ∙ ap (readOf true) (closed held (l .whole) (c .before .before .before .before .before .before .args .len) (l .at) (l .at + 1 - 0) etx (omega arith) (omega (arith, c .before .before .before .before .before .capped .ensures)) (omega (arith, c .before .before .before .before .before .capped .ensures, l .inv .1)) (l .inv .2))
+    c .read .ensures ∙ ap (readOf _) (closed held (l .whole) (c .before .before .before .before .before .before .args .len) (l .at) (l .at + 1 - 0) etx (omega arith) (omega (arith, c .before .before .before .before .before .capped .ensures)) (omega (arith, c .before .before .before .before .before .capped .ensures, l .inv .1)) (l .inv .2))
 
 pub judge-spec : {M : Type 1} → statement M
 judge-spec =
