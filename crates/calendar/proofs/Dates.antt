@@ -5,7 +5,7 @@ use Prim.Native.Nat.{ℕ, suc, _+_, _-_, _*_, _≤_, _<_}
 use native.Mathlib.Omega.{arith}
 use lib.Dec.{ltb, eqb}
 use borrow.Author.Tests.{leb-true, le-leb, ltb-true, ltb-false, eq-eqb, ne-eqb, eqb-true, not-false}
-use Rattle.refusals.specs.Refusals.{_when_, _else_}
+use Rattle.refusals.specs.Refusals.{_when_}
 use Rattle.refusals.proofs.Laws.{both, when-none, else-none}
 use Rattle.calendar.specs.Ranges.{inside}
 use Rattle.calendar.specs.Calendar.{monthLength, monthInRange, dateInRange, dayExists, dateRefusal, monthIndex, yearAt, monthAt, monthStart, dayOf, dateAt, dayAfter, isLastDay}

@@ -7,6 +7,7 @@ use borrow.Author.Tests.{lt-leb, leb-false}
 use Rattle.refusals.proofs.Laws.{was-done, does, when-none, else-none}
 use Rattle.refusals.specs.Refusals.{_when_, _else_, done}
 use Rattle.calendar.specs.Calendar.{dateRefusal, dayOf, dayNumber, dateAt, dateOf, weekdayOf, isLastDay, dayAfter, nextDay}
+use Rattle.calendar.specs.RoundTrip.{ADateComesBackFromItsDayNumber, ADayNumberComesBackFromItsDate, TheNextDayHasTheNextNumber}
 use Rattle.calendar.specs.TimeOfDay.{timeRefusal, secondsOf, secondOfDay}
 use Rattle.calendar.specs.declared.date.Date.{Date}
 use Rattle.calendar.specs.declared.time.Time.{Time}
@@ -14,8 +15,7 @@ use Rattle.calendar.proofs.Months.{held}
 use Rattle.calendar.proofs.Dates.{good, not-refused, day-within, date-at-day, good-at, day-of-date-at, day-after}
 use Rattle.calendar.proofs.Times.{good as time-good, seconds-within}
 
--- the date of a date's day number is that date
-pub date-of-day-number : (date : Date) (day : ℕ) → dayNumber date ≡ done day → dateOf day ≡ done date
+pub date-of-day-number : ADateComesBackFromItsDayNumber
 unfolding dayNumber dateOf
 date-of-day-number date day e =
     let told = was-done (dateRefusal date) (dayOf date) day e in
@@ -23,8 +23,7 @@ date-of-day-number date day e =
     let within : day < 36525 = rw (told .1) at (day-within date g) in
     does (dateAt day) (rw (lt-leb 36525 day within)) ∙ ap done (ap dateAt (sym (told .1)) ∙ date-at-day date g)
 
--- the day number of a day's date is that day
-pub day-number-of-date : (day : ℕ) (date : Date) → dateOf day ≡ done date → dayNumber date ≡ done day
+pub day-number-of-date : ADayNumberComesBackFromItsDate
 unfolding dayNumber dateOf
 day-number-of-date day date e =
     let told = was-done (12 when leb 36525 day) (dateAt day) date e in
@@ -49,8 +48,7 @@ pub in-calendar : (day : ℕ) → day < 36525 → dateOf day ≡ done (dateAt da
 unfolding dateOf
 in-calendar day within = does (dateAt day) (rw (lt-leb 36525 day within))
 
--- the next day has the next day number
-pub next-day-is-next : (date next : Date) (day : ℕ) → nextDay date ≡ done next → dayNumber date ≡ done day → dayNumber next ≡ done (day + 1)
+pub next-day-is-next : TheNextDayHasTheNextNumber
 unfolding dayNumber nextDay
 next-day-is-next date next day e f =
     let told = was-done (dateRefusal date else 12 when isLastDay date) (dayAfter date) next e in

@@ -3,3 +3,4 @@ pub mod Dates
 pub mod Times
 pub mod Laws
 pub mod Whole
+pub mod AsPrintedHolds

@@ -2,3 +2,5 @@ pub mod Ranges
 pub mod Calendar
 pub mod TimeOfDay
 pub mod Answers
+pub mod RoundTrip
+pub mod AsPrinted

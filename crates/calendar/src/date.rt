@@ -10,27 +10,32 @@ ghost use Prim.Native.Nat.{_<_};
 ghost use Rattle.calendar.specs.Calendar.{isLeap, monthLength, monthInRange, dateRefusal, daysInMonth, dayNumber, monthHolding, monthStart, dateOf, weekdayOf, nextDay};
 ghost use Rattle.calendar.specs.Answers.{daysAnswer, dayAnswer, dateAnswer};
 
+// A date as a telegram carries it; whether the calendar has it is asked by each function.
 pub struct Date {
     pub year: u16,
     pub month: u8,
     pub day: u8,
 }
 
+// How many days, or the number that refuses the month.
 pub enum DaysAnswer {
     Days(u8),
     Refused(u8),
 }
 
+// A day number, or the number that refuses the date.
 pub enum DayAnswer {
     Day(u32),
     Refused(u8),
 }
 
+// A date, or the number that refuses what was asked.
 pub enum DateAnswer {
     Found(Date),
     Refused(u8),
 }
 
+// Every fourth year; of the full hundreds, every fourth.
 fn is_leap(year: u16) -> bool
     ensures { λ r. ⌜ r ≡ isLeap year ⌝ }
 {
@@ -43,6 +48,7 @@ fn is_leap(year: u16) -> bool
     year % 400 == 0
 }
 
+// How many days a month has. A number that is no month has 31 here: the callers ask for the range.
 fn month_length(year: u16, month: u8) -> u8
     ensures { λ r. ⌜ r ≡ monthLength year month ⌝ }
 {
@@ -58,6 +64,7 @@ fn month_length(year: u16, month: u8) -> u8
     }
 }
 
+// Whether the calendar has this month.
 fn month_in_range(year: u16, month: u8) -> bool
     ensures { λ r. ⌜ r ≡ monthInRange year month ⌝ }
 {
@@ -67,6 +74,7 @@ fn month_in_range(year: u16, month: u8) -> bool
     inside(1, month as u16, 12)
 }
 
+// The number that refuses a date, and NONE where the calendar has it.
 fn date_refusal(date: Date) -> u8
     ensures { λ r. ⌜ r ≡ dateRefusal date ⌝ }
 {
@@ -82,6 +90,7 @@ fn date_refusal(date: Date) -> u8
     NONE
 }
 
+// How many days a month of the calendar has; 6 for a month or year out of range.
 pub fn days_in_month(year: u16, month: u8) -> DaysAnswer
     ensures { λ r. ⌜ daysAnswer r ≡ daysInMonth year month ⌝ }
 {
@@ -91,6 +100,7 @@ pub fn days_in_month(year: u16, month: u8) -> DaysAnswer
     DaysAnswer::Days(month_length(year, month))
 }
 
+// The day number of a date, from 1 January 1980 as 0; 6 or 7 for a date that the calendar does not have.
 pub fn day_number(date: Date) -> DayAnswer
     ensures { λ r. ⌜ dayAnswer r ≡ dayNumber date ⌝ }
 {
@@ -131,6 +141,7 @@ fn month_holding(day: u32) -> Month
     }
 }
 
+// The date of a day number; 12 for a day outside the calendar.
 pub fn date_of(day: u32) -> DateAnswer
     ensures { λ r. ⌜ dateAnswer r ≡ dateOf day ⌝ }
 {
@@ -145,13 +156,14 @@ pub fn date_of(day: u32) -> DateAnswer
     })
 }
 
-// 1 is Monday and 7 is Sunday. The week goes on beyond the calendar, so every day number has a weekday.
+// The weekday of a day number: 1 is Monday and 7 is Sunday. The week goes on beyond the calendar, so every day number has a weekday.
 pub fn weekday(day: u32) -> u8
     ensures { λ r. ⌜ r ≡ weekdayOf day ⌝ }
 {
     ((day % 7 + 1) % 7 + 1) as u8
 }
 
+// The day after; 6 or 7 for a date that the calendar does not have, 12 after 31.12.2079.
 pub fn next_day(date: Date) -> DateAnswer
     ensures { λ r. ⌜ dateAnswer r ≡ nextDay date ⌝ }
 {

@@ -5,12 +5,14 @@ ghost use mathlib.Core.Path.{_≡_};
 ghost use Rattle.calendar.specs.TimeOfDay.{timeInRange, secondOfDay, nextSecond};
 ghost use Rattle.calendar.specs.Answers.{secondAnswer, nextSecondAnswer};
 
+// A time as a telegram carries it; whether the day has it is asked by each function.
 pub struct Time {
     pub hour: u8,
     pub minute: u8,
     pub second: u8,
 }
 
+// The second of the day, or the number that refuses the time.
 pub enum SecondAnswer {
     Second(u32),
     Refused(u8),
@@ -23,6 +25,7 @@ pub enum NextSecondAnswer {
     Refused(u8),
 }
 
+// Whether the day has this time.
 fn time_in_range(time: Time) -> bool
     ensures { λ r. ⌜ r ≡ timeInRange time ⌝ }
 {
@@ -35,7 +38,7 @@ fn time_in_range(time: Time) -> bool
     inside(0, time.second as u16, 59)
 }
 
-// How many seconds of the day have gone by.
+// How many seconds of the day have gone by; 6 for a time that the day does not have.
 pub fn second_of_day(time: Time) -> SecondAnswer
     ensures { λ r. ⌜ secondAnswer r ≡ secondOfDay time ⌝ }
 {
@@ -45,6 +48,7 @@ pub fn second_of_day(time: Time) -> SecondAnswer
     SecondAnswer::Second(3600 * time.hour as u32 + 60 * time.minute as u32 + time.second as u32)
 }
 
+// The next second, with the carry to the next day; 6 for a time that the day does not have.
 pub fn next_second(time: Time) -> NextSecondAnswer
     ensures { λ r. ⌜ nextSecondAnswer r ≡ nextSecond time ⌝ }
 {

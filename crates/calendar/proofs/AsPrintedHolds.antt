@@ -1,0 +1,14 @@
+-- The calendar is as it is printed, computed from the definitions. Assumes nothing.
+use mathlib.Core.Path.{refl}
+use Rattle.refusals.specs.Refusals.{unless}
+use Rattle.calendar.specs.Calendar.{isLeap, monthLength, monthInRange, dateInRange, dayExists, dateRefusal, monthStart, startsFrom, monthStarts, dayOf, dayNumber, seek, monthHolding, dateAt, dateOf, dayAfter, isLastDay, nextDay}
+use Rattle.calendar.specs.TimeOfDay.{timeInRange, timeRefusal, secondsOf, secondOfDay, timeAfter, isLastSecond, nextSecond}
+use Rattle.calendar.specs.AsPrinted.{TheMonthStartsAreAsPrinted, TheCalendarIsAsPrinted}
+
+pub month-starts-as-printed : TheMonthStartsAreAsPrinted
+unfolding isLeap monthLength startsFrom monthStarts
+month-starts-as-printed = (refl, refl, refl)
+
+pub calendar-as-printed : TheCalendarIsAsPrinted
+unfolding unless isLeap monthLength monthInRange dateInRange dayExists dateRefusal monthStart dayOf dayNumber seek monthHolding dateAt dateOf dayAfter isLastDay nextDay timeInRange timeRefusal secondsOf secondOfDay timeAfter isLastSecond nextSecond
+calendar-as-printed = (refl, refl, refl, refl, refl, refl, refl, refl)

@@ -1,0 +1,117 @@
+-- The calendar as document 01 and the manuals print it: numbers and dates, and the statements over them.
+use mathlib.Core.Path.{_≡_}
+use mathlib.Core.Bool.{Bool, true, false}
+use mathlib.Core.List.{List, [], _∷_, map}
+use Prim.Native.Nat.{ℕ}
+use lib.ListN.{length, take, drop}
+use Rattle.refusals.specs.Refusals.{Outcome, done, refused, after}
+use Rattle.calendar.specs.declared.date.Date.{Date}
+use Rattle.calendar.specs.declared.time.Time.{Time}
+use Rattle.calendar.specs.Calendar.{daysInMonth, monthStarts, dayNumber, dateOf, weekdayOf, nextDay}
+use Rattle.calendar.specs.TimeOfDay.{secondOfDay, nextSecond}
+
+-- "the day number of each month's first day stands in a table of 1,200 entries; it begins 0, 31, 60 and its last is 36,494"
+abbrev pub TheMonthStartsAreAsPrinted : Type 0
+TheMonthStartsAreAsPrinted =
+    (length monthStarts ≡ 1200) × (take 3 monthStarts ≡ 0 ∷ 31 ∷ 60 ∷ []) × (drop 1199 monthStarts ≡ 36494 ∷ [])
+
+-- a table holds: what stands on the left of each row gives what stands on its right
+abbrev pub Holds : {A B : Type 0} → (A → B) → List (A × B) → Type 0
+Holds answer rows = map (λ row. answer (row .0)) rows ≡ map (λ row. row .1) rows
+
+-- the words of the tables
+abbrev pub date : ℕ → ℕ → ℕ → Date
+date year month day = record { year = year; month = month; day = day }
+
+abbrev pub time : ℕ → ℕ → ℕ → Time
+time hour minute second = record { hour = hour; minute = minute; second = second }
+
+-- "Gregorian": the lengths of a year's months, in a leap year and in another
+abbrev pub monthLengths : List (ℕ × List (Outcome ℕ))
+monthLengths =
+    (1996, map done (31 ∷ 29 ∷ 31 ∷ 30 ∷ 31 ∷ 30 ∷ 31 ∷ 31 ∷ 30 ∷ 31 ∷ 30 ∷ 31 ∷ []))
+    ∷ (1997, map done (31 ∷ 28 ∷ 31 ∷ 30 ∷ 31 ∷ 30 ∷ 31 ∷ 31 ∷ 30 ∷ 31 ∷ 30 ∷ 31 ∷ []))
+    ∷ []
+
+abbrev pub lengthsIn : ℕ → List (Outcome ℕ)
+lengthsIn year = map (daysInMonth year) (1 ∷ 2 ∷ 3 ∷ 4 ∷ 5 ∷ 6 ∷ 7 ∷ 8 ∷ 9 ∷ 10 ∷ 11 ∷ 12 ∷ [])
+
+-- "month or year (1980 to 2079) out of range"
+abbrev pub noMonths : List ((ℕ × ℕ) × Outcome ℕ)
+noMonths =
+    ((1996, 0), refused 6) ∷ ((1996, 13), refused 6) ∷ ((1979, 12), refused 6) ∷ ((2080, 1), refused 6) ∷ []
+
+-- dates, each with its weekday, 1 Monday to 7 Sunday, or the number that refuses it
+abbrev pub weekdays : List (Date × Outcome ℕ)
+weekdays =
+    -- "1 January 1980 is a Tuesday"
+    (date 1980 1 1, done 2)
+    -- P1, P7, and "003 prints 23.09.96 as a Sunday. It was a Monday."
+    ∷ (date 1996 4 17, done 3)
+    ∷ (date 2000 2 29, done 2)
+    ∷ (date 1996 9 23, done 1)
+    -- the last day
+    ∷ (date 2079 12 31, done 7)
+    -- "day, month or year (1980 to 2079) out of range"
+    ∷ (date 1979 12 31, refused 6)
+    ∷ (date 2080 1 1, refused 6)
+    ∷ (date 1996 0 1, refused 6)
+    ∷ (date 1996 13 1, refused 6)
+    ∷ (date 1996 4 0, refused 6)
+    ∷ (date 1996 4 32, refused 6)
+    -- P6, and "no such day in that month"
+    ∷ (date 1997 2 29, refused 7)
+    ∷ (date 1996 4 31, refused 7)
+    ∷ []
+
+abbrev pub weekdayOn : Date → Outcome ℕ
+weekdayOn date = after (dayNumber date) (λ day. done (weekdayOf day))
+
+-- "day number counts from 1 January 1980 as 0"
+abbrev pub dayNumbers : List (Date × Outcome ℕ)
+dayNumbers = (date 1980 1 1, done 0) ∷ (date 2079 12 31, done 36524) ∷ []
+
+-- the dates of day numbers: outside the calendar 12
+abbrev pub datesOfDays : List (ℕ × Outcome Date)
+datesOfDays = (0, done (date 1980 1 1)) ∷ (36525, refused 12) ∷ []
+
+-- the day after: at the end of a month, of a year, and of the calendar
+abbrev pub daysAfter : List (Date × Outcome Date)
+daysAfter =
+    (date 1996 2 28, done (date 1996 2 29))
+    ∷ (date 1996 2 29, done (date 1996 3 1))
+    ∷ (date 1999 12 31, done (date 2000 1 1))
+    ∷ (date 2079 12 31, refused 12)
+    ∷ []
+
+-- "hour 0 to 23, minute 0 to 59, second 0 to 59": times, each with the second of its day, or 6
+abbrev pub secondsOfTheDay : List (Time × Outcome ℕ)
+secondsOfTheDay =
+    (time 0 0 0, done 0)
+    ∷ (time 12 34 56, done 45296)
+    ∷ (time 23 59 59, done 86399)
+    ∷ (time 24 0 0, refused 6)
+    ∷ (time 23 60 0, refused 6)
+    ∷ (time 23 59 60, refused 6)
+    ∷ []
+
+-- the next second, and whether the next day begins with it: "from 23:59:59 to 00:00:00"
+abbrev pub secondsAfter : List (Time × Outcome (Time × Bool))
+secondsAfter =
+    (time 12 34 56, done (time 12 34 57, false))
+    ∷ (time 12 34 59, done (time 12 35 0, false))
+    ∷ (time 12 59 59, done (time 13 0 0, false))
+    ∷ (time 23 59 59, done (time 0 0 0, true))
+    ∷ (time 24 0 0, refused 6)
+    ∷ []
+
+abbrev pub TheCalendarIsAsPrinted : Type 0
+TheCalendarIsAsPrinted =
+    Holds lengthsIn monthLengths
+    × Holds (λ month. daysInMonth (month .0) (month .1)) noMonths
+    × Holds weekdayOn weekdays
+    × Holds dayNumber dayNumbers
+    × Holds dateOf datesOfDays
+    × Holds nextDay daysAfter
+    × Holds secondOfDay secondsOfTheDay
+    × Holds nextSecond secondsAfter
