@@ -1,7 +1,7 @@
 -- The parameter byte of a 6036: reading then writing, and writing then reading. Assumes nothing.
 use mathlib.Core.Path.{_≡_, refl, ap, sym, _∙_}
 use mathlib.Core.Bool.{Bool, true, false, cond, not, _||_}
-use Prim.Native.Nat.{ℕ, _<_}
+use Prim.Native.Nat.{ℕ}
 use native.Mathlib.Omega.{arith}
 use lib.Dec.{eqb}
 use borrow.Author.Tests.{eqb-true, ltb-true, not-false}
@@ -13,7 +13,8 @@ use Rattle.board.specs.declared.Parity.the-variants.{None, Even, Odd}
 use Rattle.board.specs.declared.of_6036.Parameter.{Parameter}
 use Rattle.board.specs.Switches.{switch, byteOf, withSwitch4}
 use Rattle.board.specs.Rates.{rateRow}
-use Rattle.board.specs.Of6036.{dataBitsIn, parityIn, stopBitsIn, baudIn, parameterIn, thirdFor, fourthFor, switchesFor, offered, byteFor}
+use Rattle.board.specs.Of6036.{dataBitsIn, parityAt, parityIn, stopBitsIn, baudIn, parameterIn, thirdFor, fourthFor, switchesFor, offered, byteFor}
+use Rattle.board.specs.RoundTrip.{All256Read, ReadingThenWritingSetsSwitch4, ASettingWrittenReadsBack}
 use Rattle.board.proofs.SwitchLaws.{is-on, byte-fits}
 use Rattle.board.proofs.RateLaws.{rate-back}
 
@@ -26,11 +27,15 @@ given : (answer : Outcome ℕ) (n : ℕ) → gives answer n ≡ true → answer 
 given (done byte) n e = ap done (eqb-true byte n e)
 given (refused number) n e = let z : _≡_ {A = ℕ} 0 1 = cc in absurd (omega arith)
 
--- "Reading then writing sets switch 4 when switch 3 is set and changes nothing else", for each of the 256 bytes.
-pub read-then-write : (byte : ℕ) → byte < 256 → byteFor (parameterIn byte) ≡ done (withSwitch4 (switch 3 byte || switch 4 byte) byte)
+-- each of the 256 bytes, by one test
+pub all-256-read : All256Read
+unfolding parameterIn offered rateRow
+all-256-read = below 256 (λ n. offered (parameterIn n)) refl
+
+pub read-then-write : ReadingThenWritingSetsSwitch4
 unfolding parameterIn switchesFor byteFor withSwitch4 offered rateRow unless
 read-then-write byte h =
-    given _ _ (below 256 (λ n. gives (byteFor (parameterIn n)) (withSwitch4 (switch 3 n || switch 4 n) n)) refl byte h)
+    given _ _ (below 256 (λ n. gives (byteFor (parameterIn n)) (cond (switch 3 n) (withSwitch4 n) n)) refl byte h)
 
 -- a number that is one of two comes back from the test for the first
 one-of : (n this other : ℕ) → (eqb n this || eqb n other) ≡ true → cond (eqb n this) this other ≡ n
@@ -41,7 +46,7 @@ one-of n this other e = go (eqb n this) refl e
     go false same e = sym (eqb-true n other e)
 
 -- a parity comes back from its two switches
-parity-of : (parity : Parity) → cond (thirdFor parity) None (cond (fourthFor parity) Even Odd) ≡ parity
+parity-of : (parity : Parity) → parityAt (thirdFor parity) (fourthFor parity) ≡ parity
 parity-of None = refl
 parity-of Even = refl
 parity-of Odd = refl
@@ -52,29 +57,18 @@ unfolding parameterIn switchesFor offered
 comes-back parameter e =
     let byte = byteOf (switchesFor parameter) in
     let on = is-on (switchesFor parameter) in
-    let data-bits = both (eqb (parameter .«data_bits») 8 || eqb (parameter .«data_bits») 7) _ e in
-    let stop-bits = both (eqb (parameter .«stop_bits») 1 || eqb (parameter .«stop_bits») 2) _ (data-bits .1) in
-    let data-bits-back : dataBitsIn byte ≡ parameter .«data_bits» = rw (on 1) (one-of (parameter .«data_bits») 8 7 (data-bits .0)) in
+    let data-bits = both _ _ e in
+    let stop-bits = both _ _ (data-bits .1) in
+    let data-bits-back : dataBitsIn byte ≡ parameter .«data_bits» = rw (on 1) (one-of _ _ _ (data-bits .0)) in
     let parity-back : parityIn byte ≡ parameter .parity = rw (on 2, on 3) (parity-of (parameter .parity)) in
-    let stop-bits-back : stopBitsIn byte ≡ parameter .«stop_bits» = rw (on 4) (one-of (parameter .«stop_bits») 1 2 (stop-bits .0)) in
+    let stop-bits-back : stopBitsIn byte ≡ parameter .«stop_bits» = rw (on 4) (one-of _ _ _ (stop-bits .0)) in
     let baud-back : baudIn byte ≡ parameter .baud = rw (on 5, on 6, on 7) (rate-back (parameter .baud) (ltb-true (rateRow (parameter .baud)) 8 (stop-bits .1))) in
     λ i.
     record { utc = on 0 i; «data_bits» = data-bits-back i; parity = parity-back i; «stop_bits» = stop-bits-back i; baud = baud-back i }
 
--- What is written, whatever numbers the setting holds, is a byte, and reading it gives the setting back.
-pub write-then-read : (parameter : Parameter) (byte : ℕ) → byteFor parameter ≡ done byte → (parameterIn byte ≡ parameter) × (byte < 256)
+pub write-then-read : ASettingWrittenReadsBack
 unfolding byteFor switchesFor
 write-then-read parameter byte e =
     let written = was-done (16 when not (offered parameter)) (byteOf (switchesFor parameter)) byte e in
     let offers = not-false (offered parameter) (when-none 15 (not (offered parameter)) (written .0)) in
     (ap parameterIn (sym (written .1)) ∙ comes-back parameter offers, rw (← written .1) (byte-fits (switchesFor parameter)))
-
--- Document 01, P12: hex A6 is CET, 8 bits, no parity, 2 stop, 600
-pub hex-a6 : parameterIn 166 ≡ record { utc = false; «data_bits» = 8; parity = None; «stop_bits» = 2; baud = 600 }
-unfolding parameterIn
-hex-a6 = refl
-
--- "hex 20 is 1200 baud on a 6036"
-pub hex-20 : parameterIn 32 .baud ≡ 1200
-unfolding parameterIn
-hex-20 = refl

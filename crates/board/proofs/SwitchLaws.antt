@@ -1,5 +1,5 @@
 -- Laws of switches: a byte made of switches has those switches. Assumes nothing.
-use mathlib.Core.Path.{_≡_, refl, ap, sym, _∙_}
+use mathlib.Core.Path.{_≡_, ap, sym, _∙_}
 use mathlib.Core.Bool.{Bool, true, false}
 use mathlib.Core.List.{List, [], _∷_}
 use Prim.Native.Nat.{ℕ, zero, suc, _+_, _*_, _/_, _%_, _^_, _<_}
@@ -7,10 +7,8 @@ use native.Mathlib.Nat.{div-div-eq-div-mul, pow-succ', zero-div}
 use native.Mathlib.Omega.{arith}
 use lib.Dec.{eqb}
 use lib.ListN.{length, getD}
-use borrow.Author.Tests.{eqb-true}
-use Rattle.refusals.proofs.Tables.{below}
 use Rattle.bits.specs.Bits.{bit}
-use Rattle.board.specs.Switches.{isOn, switch, byteOf, withSwitch4}
+use Rattle.board.specs.Switches.{isOn, byteOf}
 
 -- a switch in front of others: it is the lowest bit, and half the byte is the others' byte
 module _ (others : ℕ) where
@@ -40,8 +38,3 @@ is-on (on ∷ more) (suc place) =
 pub byte-fits : (switches : List Bool) → byteOf switches < 2 ^ length switches
 byte-fits [] = omega arith
 byte-fits (on ∷ more) = rw (pow-succ' 2 (length more)) (fits (byteOf more) (2 ^ length more) (byte-fits more) on)
-
--- a byte whose switch 4 is put where it stands is that byte
-pub own-switch-4 : (byte : ℕ) → byte < 256 → withSwitch4 (switch 4 byte) byte ≡ byte
-unfolding withSwitch4
-own-switch-4 byte h = eqb-true _ byte (below 256 (λ n. eqb (withSwitch4 (switch 4 n) n) n) refl byte h)

@@ -15,8 +15,13 @@ abbrev pub dataBitsIn : ℕ → ℕ
 dataBitsIn byte = cond (switch 2 byte) 8 7
 
 -- "3 and 4: on/any none, off/on even, off/off odd"
+abbrev pub parityAt : Bool → Bool → Parity
+parityAt true fourth = None
+parityAt false true = Even
+parityAt false false = Odd
+
 abbrev pub parityIn : ℕ → Parity
-parityIn byte = cond (switch 3 byte) None (cond (switch 4 byte) Even Odd)
+parityIn byte = parityAt (switch 3 byte) (switch 4 byte)
 
 -- "5 on: 1 stop bit, off: 2"
 abbrev pub stopBitsIn : ℕ → ℕ

@@ -1,5 +1,5 @@
 -- Document 01, "6036 parameter byte": the eight switches of a byte.
-use mathlib.Core.Bool.{Bool}
+use mathlib.Core.Bool.{Bool, true}
 use mathlib.Core.List.{List, [], _∷_}
 use Prim.Native.Nat.{ℕ, _+_, _-_, _*_, _/_, _%_, _^_}
 use lib.Dec.{eqb}
@@ -18,8 +18,8 @@ abbrev pub byteOf : List Bool → ℕ
 byteOf [] = 0
 byteOf (on ∷ more) = bit on + 2 * byteOf more
 
--- a byte with its switch 4 put on or off, and every other switch as it stands
-unfoldable pub withSwitch4 : Bool → ℕ → ℕ
-withSwitch4 on byte =
+-- a byte with its switch 4 on, and every other switch as it stands
+unfoldable pub withSwitch4 : ℕ → ℕ
+withSwitch4 byte =
     byteOf
-    (switch 1 byte ∷ switch 2 byte ∷ switch 3 byte ∷ on ∷ switch 5 byte ∷ switch 6 byte ∷ switch 7 byte ∷ switch 8 byte ∷ [])
+    (switch 1 byte ∷ switch 2 byte ∷ switch 3 byte ∷ true ∷ switch 5 byte ∷ switch 6 byte ∷ switch 7 byte ∷ switch 8 byte ∷ [])

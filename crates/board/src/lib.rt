@@ -9,12 +9,14 @@ ghost use lib.Dec.{eqb};
 ghost use Rattle.bits.specs.Bits.{bit};
 ghost use Rattle.board.specs.Rates.{rateAt, rateRow};
 
+// The parity bit of a character.
 pub enum Parity {
     None,
     Even,
     Odd,
 }
 
+// The byte of a setting, or the number that refuses it.
 pub enum ByteAnswer {
     Byte(u8),
     Refused(u8),
@@ -50,6 +52,7 @@ fn pick(on: bool, this: u8, other: u8) -> u8
     other
 }
 
+// Whether a number is one of two.
 fn is_either(number: u8, one: u8, other: u8) -> bool
     ensures { λ r. ⌜ r ≡ (eqb number one || eqb number other) ⌝ }
 {

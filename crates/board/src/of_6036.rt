@@ -46,6 +46,7 @@ fn parity_in(byte: u8) -> Parity
     Parity::Odd
 }
 
+// The setting of a byte. Every byte is one.
 pub fn read(byte: u8) -> Parameter
     ensures { λ r. ⌜ r ≡ parameterIn byte ⌝ }
 {
@@ -62,6 +63,7 @@ pub fn read(byte: u8) -> Parameter
     }
 }
 
+// Whether the board has switches for a setting.
 fn is_offered(parameter: Parameter) -> bool
     ensures { λ r. ⌜ r ≡ offered parameter ⌝ }
 {
@@ -106,6 +108,7 @@ fn byte_of(parameter: Parameter) -> u8
         + rate_weight(row_of(parameter.baud))
 }
 
+// The byte of a setting; 16 for one that the board does not offer.
 pub fn write(parameter: Parameter) -> ByteAnswer
     ensures { λ r. ⌜ byteAnswer r ≡ byteFor parameter ⌝ }
 {
