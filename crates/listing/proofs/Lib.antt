@@ -1,5 +1,5 @@
 pub mod TextLaws
 pub mod DecimalLaws
 pub mod RowLaws
-pub mod Examples
+pub mod AsPrintedHolds
 pub mod Whole

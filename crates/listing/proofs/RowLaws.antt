@@ -1,4 +1,4 @@
--- Laws of the rows: none is longer than 69 bytes. Assumes nothing.
+-- Laws of the rows: none is longer than the longest. Assumes nothing.
 use mathlib.Core.Path.{_≡_, refl, ap, sym, _∙_}
 use mathlib.Core.Bool.{Bool, true, false, cond}
 use mathlib.Core.List.{List, []}
@@ -23,7 +23,7 @@ use Rattle.record.specs.declared.RecordAnswer.the-variants as answer
 use Rattle.record.specs.Rule.{refusalOf}
 use Rattle.ascii.specs.Ascii.{ascii}
 use Rattle.listing.specs.Decimals.{decimal}
-use Rattle.listing.specs.Listing.{headerRow, datedKind, timeKind, receptionWord, seasonWord, statusColumn, datedRow, timeRow, recordRow, refusedRow, eventRow, strayRow, laid}
+use Rattle.listing.specs.Listing.{headerRow, datedKind, timeKind, receptionWord, seasonWord, statusColumn, datedRow, timeRow, recordRow, refusedRow, eventRow, strayRow, longestRow, laid}
 use Rattle.listing.proofs.DecimalLaws.{few-digits}
 
 dated-kind-length : (layout : DatedLayout) → length (datedKind layout) ≡ 4
@@ -65,26 +65,26 @@ count-length n h = few-digits 9 n (omega arith)
 number-length : (n : ℕ) → n < 2 ^ 8 → length (decimal n) ≤ 3
 number-length n h = few-digits 2 n (omega arith)
 
-pub header-short : length headerRow ≤ 69
+pub header-short : length headerRow ≤ longestRow
 unfolding headerRow
 header-short = lit≤ tt
 
 module _ (start : ℕ) (counted : start < 2 ^ 32) where
   pub dated-short : (layout : DatedLayout) (status : Status) (weekday : ℕ) (date : Date) (time : Time)
-      → length (datedRow start layout status weekday date time) ≤ 69
+      → length (datedRow start layout status weekday date time) ≤ longestRow
   unfolding datedRow
   dated-short layout status weekday date time =
       simp length-append (omega (arith, count-length start counted, dated-kind-length layout, status-length status))
 
-  pub time-short : (layout : TimeLayout) (time : Time) → length (timeRow start layout time) ≤ 69
+  pub time-short : (layout : TimeLayout) (time : Time) → length (timeRow start layout time) ≤ longestRow
   unfolding timeRow
   time-short layout time = simp length-append (omega (arith, count-length start counted, time-kind-length layout))
 
-  pub refused-short : (number : ℕ) → number < 2 ^ 8 → length (refusedRow start number) ≤ 69
+  pub refused-short : (number : ℕ) → number < 2 ^ 8 → length (refusedRow start number) ≤ longestRow
   unfolding refusedRow
   refused-short number h = simp length-append (omega (arith, count-length start counted, number-length number h))
 
-  pub stray-short : length (strayRow start) ≤ 69
+  pub stray-short : length (strayRow start) ≤ longestRow
   unfolding strayRow
   stray-short = simp length-append (omega (arith, count-length start counted))
 

@@ -9,8 +9,8 @@ use lib.Seq.{take-suc, take-suc-set, drop-cons, set-at, length-take-le, append-s
 use borrow.Author.Tests.{lt-ltb, le-ltb}
 use Rattle.refusals.specs.Refusals.{Outcome, done, refused}
 use Rattle.listing.specs.declared.Text.{Text}
-use Rattle.listing.specs.Listing.{laid}
-use Rattle.listing.specs.Texts.{emptyText, pushed, appended, contentOf}
+use Rattle.listing.specs.Listing.{longestRow, laid}
+use Rattle.listing.specs.Texts.{textRoom, emptyText, pushed, appended, contentOf}
 
 appended-twice : (text : Text) (xs ys : List ℕ) → appended text (xs ++ ys) ≡ appended (appended text xs) ys
 unfolding appended
@@ -43,16 +43,16 @@ no-more text word at h = rw (drop-of-length-le word {i = at} h)
 
 -- a text that holds some bytes
 pub record Holds (text : Text) (xs : List ℕ) : Type 0 where
-  pub room : length (text .bytes) ≡ 80
+  pub room : length (text .bytes) ≡ textRoom
   pub len : text .len ≡ length xs
   pub content : contentOf text ≡ xs
 
-pushed-holds : (text : Text) (xs : List ℕ) (x : ℕ) → Holds text xs → length xs < 80 → Holds (pushed text x) (xs ++ x ∷ [])
+pushed-holds : (text : Text) (xs : List ℕ) (x : ℕ) → Holds text xs → length xs < textRoom → Holds (pushed text x) (xs ++ x ∷ [])
 unfolding pushed
 pushed-holds text xs x h short =
-    let fits : text .len < 80 = omega (arith, h .len) in
+    let fits : text .len < textRoom = omega (arith, h .len) in
     let room = h .room in
-    rw (lt-ltb (text .len) 80 fits)
+    rw (lt-ltb (text .len) textRoom fits)
     (record {
       room = length-set (text .bytes) (text .len) x ∙ h .room;
       len = omega (arith, h .len, length-append xs (x ∷ []));
@@ -62,7 +62,7 @@ pushed-holds text xs x h short =
           ∙ ap (λ l. l ++ x ∷ []) (h .content);
     })
 
-appended-holds : (text : Text) (xs ys : List ℕ) → Holds text xs → length xs + length ys ≤ 80 → Holds (appended text ys) (xs ++ ys)
+appended-holds : (text : Text) (xs ys : List ℕ) → Holds text xs → length xs + length ys ≤ textRoom → Holds (appended text ys) (xs ++ ys)
 unfolding appended
 appended-holds text xs [] h short = rw (append-nil xs) h
 appended-holds text xs (y ∷ ys) h short =
@@ -70,13 +70,13 @@ appended-holds text xs (y ∷ ys) h short =
     (appended-holds (pushed text y) (xs ++ y ∷ []) ys (pushed-holds text xs y h (omega arith)) (omega (arith, length-append xs (y ∷ []))))
 
 -- a row that is short enough stands whole
-pub holds : (text : Text) (row : List ℕ) → text ≡ appended emptyText row → length row ≤ 80 → Holds text row
+pub holds : (text : Text) (row : List ℕ) → text ≡ appended emptyText row → length row ≤ textRoom → Holds text row
 holds text row e short =
     rw e (appended-holds emptyText [] row (record { room = refl; len = refl; content = refl }) (omega arith))
 
--- so that it can be laid, and is what is laid; no row is longer than 69 bytes
-module _ (text : Text) (row : List ℕ) (made : text ≡ appended emptyText row) (short : length row ≤ 69) where
-  pub small-enough : text .len ≤ 80
+-- so that it can be laid, and is what is laid
+module _ (text : Text) (row : List ℕ) (made : text ≡ appended emptyText row) (short : length row ≤ longestRow) where
+  pub small-enough : text .len ≤ textRoom
   small-enough = omega (arith, holds text row made (omega arith) .len)
 
   pub row-laid : {answer : Outcome ℕ × List ℕ} (out : List ℕ) → laid (done (contentOf text)) out ≡ answer → laid (done row) out ≡ answer
@@ -92,7 +92,7 @@ copy-step from out at f o =
     ∙ ap (λ l. l ++ drop (suc at) out) (sym (take-suc from at 0 f)))
 
 -- The ways in which a text is laid.
-module _ (text : Text) (out : List ℕ) (bound : length (text .bytes) ≡ 80) (small : text .len ≤ 80) where
+module _ (text : Text) (out : List ℕ) (bound : length (text .bytes) ≡ textRoom) (small : text .len ≤ textRoom) where
   size : length (contentOf text) ≡ text .len
   size = length-take-le (text .len) (text .bytes) (omega arith)
 

@@ -2,3 +2,4 @@ pub mod Decimals
 pub mod Listing
 pub mod Texts
 pub mod Answers
+pub mod AsPrinted

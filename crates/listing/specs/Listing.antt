@@ -97,6 +97,10 @@ eventRow start (answer.Refused number) = done (refusedRow start number)
 unfoldable pub strayRow : ℕ → List ℕ
 strayRow stray = ascii "stray " ++ decimal stray ++ ascii "\n"
 
+-- no row is longer
+abbrev pub longestRow : ℕ
+longestRow = 69
+
 -- a row laid into a buffer: the answer, and the buffer behind it. 13: "the lent buffer is shorter than what is to be written"; "a
 -- refused write leaves the buffer untouched; a successful one changes only" the row's own bytes
 unfoldable pub laid : Outcome (List ℕ) → List ℕ → Outcome ℕ × List ℕ

@@ -6,13 +6,17 @@ use lib.Dec.{ltb}
 use lib.ListN.{take, set, replicate}
 use Rattle.listing.specs.declared.Text.{Text}
 
+-- how many bytes a text has room for
+abbrev pub textRoom : ℕ
+textRoom = 80
+
 -- nothing yet
 abbrev pub emptyText : Text
-emptyText = record { bytes = replicate 80 0; len = 0 }
+emptyText = record { bytes = replicate textRoom 0; len = 0 }
 
 -- one byte more, where there is room for it
 unfoldable pub pushed : Text → ℕ → Text
-pushed text byte = cond (ltb (text .len) 80) (record { bytes = set (text .bytes) (text .len) byte; len = text .len + 1 }) text
+pushed text byte = cond (ltb (text .len) textRoom) (record { bytes = set (text .bytes) (text .len) byte; len = text .len + 1 }) text
 
 -- several, one behind another
 unfoldable pub appended : Text → List ℕ → Text

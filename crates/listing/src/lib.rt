@@ -9,17 +9,24 @@ ghost use Prim.Native.Nat.{_≤_};
 ghost use Rattle.refusals.specs.Refusals.{done};
 ghost use Rattle.listing.specs.Decimals.{digit, two, four, decimal};
 ghost use Rattle.listing.specs.Listing.{laid};
-ghost use Rattle.listing.specs.Texts.{emptyText, appended, contentOf};
+ghost use Rattle.listing.specs.Texts.{textRoom, emptyText, appended, contentOf};
 ghost use Rattle.listing.specs.Answers.{rowAnswer};
 
+// How many bytes of the buffer the row takes, or the number that refuses it.
 pub enum RowAnswer {
     Written(usize),
     Refused(u8),
 }
 
-// A row in the making. The longest row has 69 bytes, so none is ever cut off.
+// No row of the listing has more bytes.
+pub const LONGEST_ROW: usize = 69;
+
+// How many bytes a text has room for: no row is cut off.
+const TEXT_ROOM: usize = 80;
+
+// A row in the making.
 struct Text {
-    bytes: [u8; 80],
+    bytes: [u8; TEXT_ROOM],
     len: usize,
 }
 
@@ -31,11 +38,12 @@ fn digit(n: u32) -> u8
 }
 
 impl Text {
+    // Nothing yet.
     fn empty() -> Text
         ensures { λ r. ⌜ r ≡ emptyText ⌝ }
     {
         Text {
-            bytes: [0u8; 80],
+            bytes: [0u8; TEXT_ROOM],
             len: 0,
         }
     }
@@ -45,7 +53,7 @@ impl Text {
         ensures { λ r. ⌜ r ≡ appended self (byte ∷ []) ⌝ }
     {
         let len = self.len;
-        if len < 80 {
+        if len < TEXT_ROOM {
             let mut bytes = self.bytes;
             bytes[len] = byte;
             return Text {
@@ -56,6 +64,7 @@ impl Text {
         self
     }
 
+    // The bytes of a word, one behind another.
     fn append(self, word: &[u8]) -> Text
         ensures { λ r. ⌜ r ≡ appended self (now (word .entry)) ⌝ }
     {
@@ -68,6 +77,7 @@ impl Text {
         text
     }
 
+    // A word that may be missing.
     fn append_if(self, wanted: bool, word: &[u8]) -> Text
         ensures { λ r. ⌜ r ≡ appended self (cond wanted (now (word .entry)) []) ⌝ }
     {
@@ -103,7 +113,7 @@ impl Text {
 
     // Lays the text at the front of the buffer, if there is room for it.
     fn lay(self, out: &mut [u8]) -> RowAnswer
-        requires { ⌜ self .len ≤ 80 ⌝ }
+        requires { ⌜ self .len ≤ textRoom ⌝ }
         ensures { λ r. ⌜ laid (done (contentOf self)) (now (out .entry)) ≡ (rowAnswer r, now (out .exit)) ⌝ }
     {
         let bytes = self.bytes;

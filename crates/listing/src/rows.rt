@@ -130,7 +130,7 @@ fn stray_row(stray: u32) -> Text
     words.decimal(stray).push(b'\n')
 }
 
-// The first line of the listing.
+// The first line of the listing; 13 for a buffer that is too short.
 pub fn header(out: &mut [u8]) -> RowAnswer
     ensures { λ r. ⌜ laid (done headerRow) (now (out .entry)) ≡ (rowAnswer r, now (out .exit)) ⌝ }
 {
@@ -138,6 +138,7 @@ pub fn header(out: &mut [u8]) -> RowAnswer
 }
 
 // The row of an event: where it starts, and the record that was read or the number that it was refused with.
+// A record that no telegram could carry has no row: 5 to 8; then 13 for a buffer that is too short.
 pub fn row(start: u32, answer: RecordAnswer, out: &mut [u8]) -> RowAnswer
     ensures { λ r. ⌜ laid (eventRow start answer) (now (out .entry)) ≡ (rowAnswer r, now (out .exit)) ⌝ }
 {
@@ -158,7 +159,7 @@ pub fn row(start: u32, answer: RecordAnswer, out: &mut [u8]) -> RowAnswer
     }
 }
 
-// The last line of the listing: how many bytes were stray.
+// The last line of the listing: how many bytes were stray; 13 for a buffer that is too short.
 pub fn stray_line(stray: u32, out: &mut [u8]) -> RowAnswer
     ensures { λ r. ⌜ laid (done (strayRow stray)) (now (out .entry)) ≡ (rowAnswer r, now (out .exit)) ⌝ }
 {

@@ -4,6 +4,7 @@ use mathlib.Core.List.{_++_}
 use Prim.Native.Nat.{_-_, _≤_}
 use native.Mathlib.Omega.{arith}
 use lib.ListN.{length, length-map, take, drop, getD, set, length-set}
+use Rattle.listing.specs.Texts.{textRoom}
 use Rattle.listing.proofs.TextLaws.{copy-step, no-room, all-laid}
 use Rattle.listing.proofs.Text.lay.Statement.{statement}
 use Rattle.listing.proofs.Text.lay.Tie as tie
@@ -38,7 +39,7 @@ loop-again c =
     let l = c .before .loop in
     let bytes = c .before .before .before .before .args .self .bytes in
     let out = c .before .before .before .before .args .out .now in
-    let bound : length bytes ≡ 80 = sym (length-map bytes (λ x. x)) ∙ c .before .before .before .before .good .0 .1 .1 .0 .1 .0 .1 in
+    let bound : length bytes ≡ textRoom = sym (length-map bytes (λ x. x)) ∙ c .before .before .before .before .good .0 .1 .1 .0 .1 .0 .1 in
     (omega arith, length-set (l .out) (l .at) _ ∙ l .inv .1, ap (λ o. set o (l .at) (getD bytes (l .at) 0)) (l .inv .2) ∙ copy-step bytes out (l .at) (omega (arith, c .before .before .before .before .pre)) (omega (arith, c .before .before .if1 .left)))
 
 same-length : tie.Need-same-length Inv-loop μ-loop

@@ -1,0 +1,13 @@
+-- The listing is as it is printed, computed from the definitions. Assumes nothing.
+use mathlib.Core.Path.{refl}
+use Rattle.refusals.specs.Refusals.{unless}
+use Rattle.calendar.specs.Calendar.{isLeap, monthLength, monthInRange, dateInRange, dayExists, monthStart, dayOf}
+use Rattle.calendar.specs.TimeOfDay.{timeInRange, timeRefusal}
+use Rattle.record.specs.Rule.{plainUtc, tableCanSay, statusAllowed, weekdayAllowed, weekdayAgrees, datedRefusal}
+use Rattle.listing.specs.Decimals.{decimalWithin, decimal}
+use Rattle.listing.specs.Listing.{headerRow, statusColumn, datedRow, timeRow, refusedRow, strayRow, laid}
+use Rattle.listing.specs.AsPrinted.{TheListingIsAsPrinted}
+
+pub listing-as-printed : TheListingIsAsPrinted
+unfolding unless isLeap monthLength monthInRange dateInRange dayExists monthStart dayOf timeInRange timeRefusal plainUtc tableCanSay statusAllowed weekdayAllowed weekdayAgrees datedRefusal decimalWithin decimal headerRow statusColumn datedRow timeRow refusedRow strayRow laid
+listing-as-printed = (refl, refl, refl, refl)
