@@ -1,4 +1,4 @@
--- Document 01, "Listing, whole": its lines as text, and the one statement over them.
+-- Document 01, "Listing, whole": its lines as text, and the one statement over them; and how a row is laid into a buffer.
 use mathlib.Core.Path.{_≡_}
 use mathlib.Core.Bool.{Bool, true, false}
 use mathlib.Core.List.{List, [], _∷_, _++_, map}
@@ -78,19 +78,18 @@ lines =
     ∷ (event 4294967295 (april L6021 (status Crystal true true true) 3), longest)
     ∷ []
 
--- a row laid into a buffer, and what comes of it: room to spare, just room enough, a byte short; and a row that is refused
-abbrev pub buffers : List ((Outcome (List ℕ) × List ℕ) × (Outcome ℕ × List ℕ))
-buffers =
-    ((done (ascii "ab"), 1 ∷ 2 ∷ 3 ∷ []), (done 2, ascii "ab" ++ 3 ∷ []))
-    ∷ ((done (ascii "ab"), 1 ∷ 2 ∷ []), (done 2, ascii "ab"))
-    ∷ ((done (ascii "ab"), 1 ∷ []), (refused 13, 1 ∷ []))
-    ∷ ((refused 8, 1 ∷ 2 ∷ 3 ∷ []), (refused 8, 1 ∷ 2 ∷ 3 ∷ []))
-    ∷ []
-
 abbrev pub TheListingIsAsPrinted : Type 0
 TheListingIsAsPrinted =
     (map (λ row. made (row .0)) lines ≡ map (λ row. done (line (row .1))) lines)
+    × (length (line longest) ≡ longestRow)
     -- a record that no telegram could carry: the first on a Thursday
     × (made (event 1 (april L6021 (status High true false false) 4)) ≡ refused 8)
-    × (length (line longest) ≡ longestRow)
-    × (map (λ row. laid (row .0 .0) (row .0 .1)) buffers ≡ map (λ row. row .1) buffers)
+
+-- "the lent buffer is shorter than what is to be written", "a refused write leaves the buffer untouched; a successful one changes
+-- only" its own bytes: a row of two bytes where there is room to spare, just room enough, and a byte too few; and a row that is refused
+abbrev pub RowsAreLaidAsPrinted : Type 0
+RowsAreLaidAsPrinted =
+    (laid (done (7 ∷ 8 ∷ [])) (1 ∷ 2 ∷ 3 ∷ []) ≡ (done 2, 7 ∷ 8 ∷ 3 ∷ []))
+    × (laid (done (7 ∷ 8 ∷ [])) (1 ∷ 2 ∷ []) ≡ (done 2, 7 ∷ 8 ∷ []))
+    × (laid (done (7 ∷ 8 ∷ [])) (1 ∷ []) ≡ (refused 13, 1 ∷ []))
+    × (laid (refused 8) (1 ∷ 2 ∷ 3 ∷ []) ≡ (refused 8, 1 ∷ 2 ∷ 3 ∷ []))
