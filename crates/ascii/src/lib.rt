@@ -1,1 +1,1 @@
-// Text as the documents print it, for the definitions. There is no code here: specs/ has the words.
+// Text as the documents print it, and the control characters, for the definitions. There is no code here: specs/ has the words.

@@ -5,6 +5,7 @@ use Prim.Native.Nat.{ℕ, _+_}
 use lib.Dec.{eqb}
 use lib.ListN.{length, getD}
 use Rattle.refusals.specs.Refusals.{Outcome, done, refused}
+use Rattle.ascii.specs.Control as control
 use Rattle.places.specs.Places.{Place, fixed, decimal, code, placeNumber}
 use Rattle.record.specs.declared.DatedLayout.the-variants.{L6021, L2000, L5500, L5050}
 use Rattle.record.specs.declared.TimeLayout.the-variants.{T6021, T5500, T5050}
@@ -45,12 +46,11 @@ yyyy = decimal 12 ∷ decimal 13 ∷ yy
 abbrev pub space : Place
 space = fixed 32
 
--- "LF is hex 0A, CR hex 0D"
 abbrev pub lf : Place
-lf = fixed 10
+lf = fixed control.lf
 
 abbrev pub cr : Place
-cr = fixed 13
+cr = fixed control.cr
 
 -- the table, "between STX and ETX"
 unfoldable pub placesOf : Layout → List Place
@@ -95,7 +95,7 @@ ownLayout (TimeOnly layout time) = layouts.TimeOnly layout
 
 -- "the order of LF and CR decides": LF CR is a 6021t, and anything else is judged as a 5500t, which wants CR LF
 abbrev pub byTrailer : List ℕ → Layout
-byTrailer body = cond (eqb (getD body 6 0) 10 && eqb (getD body 7 0) 13) (layouts.TimeOnly T6021) (layouts.TimeOnly T5500)
+byTrailer body = cond (eqb (getD body 6 0) control.lf && eqb (getD body 7 0) control.cr) (layouts.TimeOnly T6021) (layouts.TimeOnly T5500)
 
 -- "the layout is found from the length", here without STX and ETX; 1: "length isn't one in the table"
 unfoldable pub layoutOf : List ℕ → Outcome Layout

@@ -5,6 +5,7 @@ use Prim.Native.Nat.{ℕ, _-_}
 use lib.Dec.{eqb}
 use lib.ListN.{length, take, drop, getD}
 use Rattle.refusals.specs.Refusals.{_when_, _else_, Outcome, unless, after}
+use Rattle.ascii.specs.Control.{stx, etx}
 use Rattle.places.specs.Places.{gather, rowFault, noDigits}
 use Rattle.record.specs.declared.Record.{Record}
 use Rattle.record.specs.Rule.{refusalOf}
@@ -16,9 +17,9 @@ use Rattle.layouts.specs.Coding.{recordIn}
 abbrev pub bodyOf : Bool → List ℕ → List ℕ
 bodyOf control bytes = cond control (take (length bytes - 2) (drop 1 bytes)) bytes
 
--- "STX (hex 02) and ETX (hex 03)" in their places
+-- STX and ETX in their places
 abbrev pub framed : List ℕ → Bool
-framed bytes = eqb (getD bytes 0 0) 2 && eqb (getD bytes (length bytes - 1) 0) 3
+framed bytes = eqb (getD bytes 0 0) stx && eqb (getD bytes (length bytes - 1) 0) etx
 
 -- the record that a body carries in a layout, right or wrong
 unfoldable pub carried : Layout → List ℕ → Record

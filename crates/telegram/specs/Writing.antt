@@ -5,6 +5,7 @@ use Prim.Native.Nat.{ℕ, _+_, _-_, _%_, _^_}
 use lib.Dec.{ltb, eqb}
 use lib.ListN.{length, take, drop}
 use Rattle.refusals.specs.Refusals.{_when_, Outcome, done, refused, unless, after}
+use Rattle.ascii.specs.Control.{stx, etx}
 use Rattle.places.specs.Places.{render}
 use Rattle.record.specs.declared.DatedLayout.the-variants.{L6021}
 use Rattle.record.specs.declared.Record.{Record}
@@ -23,7 +24,7 @@ bodyBytes rec = render (placesOf (ownLayout rec)) (digitsOut rec)
 
 -- "STX and ETX. Without control characters both are missing"
 abbrev pub telegramOf : Bool → Record → List ℕ
-telegramOf control rec = cond control (2 ∷ bodyBytes rec ++ 3 ∷ []) (bodyBytes rec)
+telegramOf control rec = cond control (stx ∷ bodyBytes rec ++ etx ∷ []) (bodyBytes rec)
 
 -- the same fields in the 6021 layout; 14: "a date is needed and the layout carries none"
 abbrev pub as6021 : Record → Outcome Record
