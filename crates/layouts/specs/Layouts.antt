@@ -68,21 +68,21 @@ unfoldable pub allRows : List ℕ
 allRows =
     map placeNumber
     (placesOf (layouts.Dated L6021)
+    ++ placesOf (layouts.TimeOnly T6021)
     ++ placesOf (layouts.Dated L2000)
     ++ placesOf (layouts.Dated L5500)
-    ++ placesOf (layouts.Dated L5050)
-    ++ placesOf (layouts.TimeOnly T6021)
     ++ placesOf (layouts.TimeOnly T5500)
+    ++ placesOf (layouts.Dated L5050)
     ++ placesOf (layouts.TimeOnly T5050))
 
 -- where each begins
 abbrev pub rowStart : Layout → ℕ
 rowStart (layouts.Dated L6021) = 0
-rowStart (layouts.Dated L2000) = 16
-rowStart (layouts.Dated L5500) = 34
-rowStart (layouts.Dated L5050) = 53
-rowStart (layouts.TimeOnly T6021) = 76
-rowStart (layouts.TimeOnly T5500) = 84
+rowStart (layouts.TimeOnly T6021) = 16
+rowStart (layouts.Dated L2000) = 24
+rowStart (layouts.Dated L5500) = 42
+rowStart (layouts.TimeOnly T5500) = 61
+rowStart (layouts.Dated L5050) = 69
 rowStart (layouts.TimeOnly T5050) = 92
 
 unfoldable pub spanOf : Layout → Span

@@ -1,3 +1,4 @@
 pub mod Layouts
 pub mod Coding
 pub mod Answers
+pub mod AsPrinted

@@ -11,40 +11,41 @@ const LF: u8 = b'\n';
 
 const CR: u8 = b'\r';
 
-const SPACE: u8 = b' ';
+const SP: u8 = b' ';
 
 // Places that hold a digit: its slot, counted from the first decimal or the first code place.
-const STATUS: u8 = 144;
+const ST: u8 = 144;
 
-const WEEKDAY: u8 = 145;
+const WD: u8 = 145;
 
-const HOUR_10: u8 = 130;
+// Behind the letters of hour, minute, second, day, month and year stands the power of ten.
+const H1: u8 = 130;
 
-const HOUR_1: u8 = 131;
+const H0: u8 = 131;
 
-const MINUTE_10: u8 = 132;
+const M1: u8 = 132;
 
-const MINUTE_1: u8 = 133;
+const M0: u8 = 133;
 
-const SECOND_10: u8 = 134;
+const S1: u8 = 134;
 
-const SECOND_1: u8 = 135;
+const S0: u8 = 135;
 
-const DAY_10: u8 = 136;
+const D1: u8 = 136;
 
-const DAY_1: u8 = 137;
+const D0: u8 = 137;
 
-const MONTH_10: u8 = 138;
+const MO1: u8 = 138;
 
-const MONTH_1: u8 = 139;
+const MO0: u8 = 139;
 
-const YEAR_1000: u8 = 140;
+const Y3: u8 = 140;
 
-const YEAR_100: u8 = 141;
+const Y2: u8 = 141;
 
-const YEAR_10: u8 = 142;
+const Y1: u8 = 142;
 
-const YEAR_1: u8 = 143;
+const Y0: u8 = 143;
 
 // Where a row stands among the rows.
 pub struct Span {
@@ -57,117 +58,16 @@ pub enum LayoutAnswer {
     Refused(u8),
 }
 
+// The table of document 01, in its order: 6021, 6021t, 2000, 5500, 5500t, 5050, 5050t.
+#[rattlefmt::skip]
 const ROWS: [u8; 103] = [
-    // 6021
-    STATUS,
-    WEEKDAY,
-    HOUR_10,
-    HOUR_1,
-    MINUTE_10,
-    MINUTE_1,
-    SECOND_10,
-    SECOND_1,
-    DAY_10,
-    DAY_1,
-    MONTH_10,
-    MONTH_1,
-    YEAR_10,
-    YEAR_1,
-    LF,
-    CR,
-    // 2000
-    STATUS,
-    WEEKDAY,
-    HOUR_10,
-    HOUR_1,
-    MINUTE_10,
-    MINUTE_1,
-    SECOND_10,
-    SECOND_1,
-    DAY_10,
-    DAY_1,
-    MONTH_10,
-    MONTH_1,
-    YEAR_1000,
-    YEAR_100,
-    YEAR_10,
-    YEAR_1,
-    LF,
-    CR,
-    // 5500
-    STATUS,
-    SPACE,
-    HOUR_10,
-    HOUR_1,
-    MINUTE_10,
-    MINUTE_1,
-    SECOND_10,
-    SECOND_1,
-    SPACE,
-    DAY_10,
-    DAY_1,
-    MONTH_10,
-    MONTH_1,
-    YEAR_10,
-    YEAR_1,
-    SPACE,
-    WEEKDAY,
-    CR,
-    LF,
-    // 5050
-    HOUR_10,
-    HOUR_1,
-    SPACE,
-    MINUTE_10,
-    MINUTE_1,
-    SPACE,
-    SECOND_10,
-    SECOND_1,
-    SPACE,
-    DAY_10,
-    DAY_1,
-    SPACE,
-    MONTH_10,
-    MONTH_1,
-    SPACE,
-    YEAR_10,
-    YEAR_1,
-    SPACE,
-    STATUS,
-    WEEKDAY,
-    SPACE,
-    CR,
-    LF,
-    // 6021t
-    HOUR_10,
-    HOUR_1,
-    MINUTE_10,
-    MINUTE_1,
-    SECOND_10,
-    SECOND_1,
-    LF,
-    CR,
-    // 5500t
-    HOUR_10,
-    HOUR_1,
-    MINUTE_10,
-    MINUTE_1,
-    SECOND_10,
-    SECOND_1,
-    CR,
-    LF,
-    // 5050t
-    HOUR_10,
-    HOUR_1,
-    SPACE,
-    MINUTE_10,
-    MINUTE_1,
-    SPACE,
-    SECOND_10,
-    SECOND_1,
-    SPACE,
-    CR,
-    LF,
+    ST, WD, H1, H0, M1, M0, S1, S0, D1, D0, MO1, MO0, Y1, Y0, LF, CR,
+    H1, H0, M1, M0, S1, S0, LF, CR,
+    ST, WD, H1, H0, M1, M0, S1, S0, D1, D0, MO1, MO0, Y3, Y2, Y1, Y0, LF, CR,
+    ST, SP, H1, H0, M1, M0, S1, S0, SP, D1, D0, MO1, MO0, Y1, Y0, SP, WD, CR, LF,
+    H1, H0, M1, M0, S1, S0, CR, LF,
+    H1, H0, SP, M1, M0, SP, S1, S0, SP, D1, D0, SP, MO1, MO0, SP, Y1, Y0, SP, ST, WD, SP, CR, LF,
+    H1, H0, SP, M1, M0, SP, S1, S0, SP, CR, LF,
 ];
 
 // The rows of the seven layouts, one behind another.
@@ -183,13 +83,13 @@ pub fn span_of(layout: Layout) -> Span
     match layout {
         Layout::Dated(dated) => match dated {
             DatedLayout::L6021 => Span { start: 0, end: 16 },
-            DatedLayout::L2000 => Span { start: 16, end: 34 },
-            DatedLayout::L5500 => Span { start: 34, end: 53 },
-            DatedLayout::L5050 => Span { start: 53, end: 76 },
+            DatedLayout::L2000 => Span { start: 24, end: 42 },
+            DatedLayout::L5500 => Span { start: 42, end: 61 },
+            DatedLayout::L5050 => Span { start: 69, end: 92 },
         },
         Layout::TimeOnly(brief) => match brief {
-            TimeLayout::T6021 => Span { start: 76, end: 84 },
-            TimeLayout::T5500 => Span { start: 84, end: 92 },
+            TimeLayout::T6021 => Span { start: 16, end: 24 },
+            TimeLayout::T5500 => Span { start: 61, end: 69 },
             TimeLayout::T5050 => Span {
                 start: 92,
                 end: 103,
