@@ -6,9 +6,8 @@ use Prim.Native.Nat.{ℕ, zero, suc, _≤_, min}
 use native.Mathlib.Omega.{arith}
 use lib.Dec.{leb}
 use borrow.Author.Tests.{leb-true, leb-false}
-use Rattle.refusals.specs.Refusals.{_when_, _else_, Outcome, done, refused, unless, after}
+use Rattle.refusals.specs.Refusals.{_when_, _else_, lower, Outcome, done, refused, unless, after}
 use Rattle.refusals.proofs.Laws.{both, else-assoc}
-use Rattle.places.specs.Places.{lower}
 use Rattle.demands.specs.Numbers.{Rule, _givenWhen_, lowest, firstOf, allFrom, inOrder, TheFirstIsTheLowest, _refusedBy_, _byFirst_, among, _doneOr_, _noneOr_}
 
 pub else-nothing : (n : ℕ) → (n else 0) ≡ n

@@ -4,8 +4,7 @@ use mathlib.Core.List.{List, [], _∷_}
 use mathlib.Core.Path.{_≡_}
 use Prim.Native.Nat.{ℕ, zero, suc}
 use lib.Dec.{leb, eqb}
-use Rattle.refusals.specs.Refusals.{_when_, _else_, Outcome, done, refused, unless, after}
-use Rattle.places.specs.Places.{lower}
+use Rattle.refusals.specs.Refusals.{_when_, _else_, lower, Outcome, done, refused, unless, after}
 use Rattle.record.specs.Answers.{recordAnswer}
 use Rattle.line.specs.declared.Heard.{Heard}
 use Rattle.line.specs.declared.Heard.the-variants.{Nothing, Event, Refused}

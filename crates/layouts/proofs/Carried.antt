@@ -1,15 +1,17 @@
 -- A good record's digits carry that record, and digits are those of the record that they carry. Assumes nothing.
 use mathlib.Core.Path.{_≡_, refl, ap, ap₂, sym, _∙_}
 use mathlib.Core.Bool.{Bool, true, false}
-use mathlib.Core.List.{List, [], _∷_, _++_}
-use Prim.Native.Nat.{ℕ, zero, suc, _+_, _*_, _/_, _%_, _≤_}
+use mathlib.Core.List.{List, [], _∷_}
+use Prim.Native.Nat.{ℕ, zero, suc, _+_, _-_, _*_, _/_, _%_, _≤_, _<_}
 use native.Mathlib.Nat.{add-zero, zero-add, add-suc, suc-add}
 use native.Mathlib.Omega.{arith}
-use lib.ListN.{length, drop, getD, drop-of-length-le}
+use lib.ListN.{length, drop, getD, replicate, drop-of-length-le}
 use lib.Seq.{drop-cons}
-use Rattle.places.specs.Places.{Place}
-use Rattle.places.proofs.Rows.{usedIn, limit}
-use Rattle.places.proofs.RoundTrip.{Held}
+use borrow.Author.Tests.{le-ltb}
+use Rattle.places.specs.Places.{Place, slots}
+use Rattle.places.proofs.Rows.{usedIn, allShown, Held}
+use Rattle.places.proofs.RoundTrip.{held-most}
+use Rattle.calendar.specs.declared.date.Date.{Date}
 use Rattle.calendar.specs.declared.time.Time.{Time}
 use Rattle.calendar.proofs.Dates as dates
 use Rattle.calendar.proofs.Months.{month-28-to-31}
@@ -18,15 +20,17 @@ use Rattle.record.specs.declared.DatedLayout.{DatedLayout}
 use Rattle.record.specs.declared.DatedLayout.the-variants.{L6021, L2000, L5500, L5050}
 use Rattle.record.specs.declared.TimeLayout.{TimeLayout}
 use Rattle.record.specs.declared.TimeLayout.the-variants.{T6021, T5500, T5050}
+use Rattle.record.specs.declared.Status.{Status}
 use Rattle.record.specs.declared.Record.{Record}
 use Rattle.record.specs.declared.Record.the-variants.{Dated, TimeOnly}
 use Rattle.record.specs.Rule.{weekdayAllowed, refusalOf}
 use Rattle.record.proofs.RuleLaws as rule
 use Rattle.layouts.specs.declared.Layout.{Layout}
 use Rattle.layouts.specs.declared.Layout.the-variants as layouts
-use Rattle.layouts.specs.Layouts.{hh, mm, ss, placesOf, ownLayout}
-use Rattle.layouts.specs.Coding.{hasFullYear, number, recordIn, digitsOut}
+use Rattle.layouts.specs.Layouts.{placesOf, ownLayout}
+use Rattle.layouts.specs.Coding.{statusOut, weekdayOut, hasFullYear, centuryOut, number, recordIn, emptyBehind, digitsOut}
 use Rattle.layouts.proofs.Bits.{century-small}
+use Rattle.layouts.proofs.RowLaws.{limit, row-limit}
 use Rattle.layouts.proofs.CodingLaws.{pair-back, tens-back, ones-back, status-small, weekday-small, status-back, weekday-back, status-code-back, weekday-code-back, year-back, year-low, century-back}
 
 pub own-layout : (layout : Layout) (digits : List ℕ) → ownLayout (recordIn layout digits) ≡ layout
@@ -65,32 +69,6 @@ record-back (Dated layout status weekday date time) none =
     (time-back time t i)
 record-back (TimeOnly layout time) none = ap (TimeOnly layout) (time-back time (times.good time none))
 
--- The digits of a good record are within their slots' limits.
-abbrev Within : ℕ → List ℕ → Type 0
-Within k [] = Unit {0}
-Within k (digit ∷ digits) = (digit ≤ limit k) × Within (suc k) digits
-
-within-at : (digits : List ℕ) (k : ℕ) → Within k digits → (slot : ℕ) → getD digits slot 0 ≤ limit (k + slot)
-within-at [] k h slot = omega arith
-within-at (digit ∷ digits) k h zero = rw add-zero (h .0)
-within-at (digit ∷ digits) k h (suc slot) = rw (add-suc, ← suc-add) (within-at digits (suc k) (h .1) slot)
-
-held : (digits : List ℕ) → length digits ≡ 16 → Within 0 digits → Held digits
-held digits size h = record { size = size; within = λ slot. rw zero-add at (within-at digits 0 h slot) }
-
-pub digits-held : (rec : Record) → refusalOf rec ≡ 0 → Held (digitsOut rec)
-digits-held (Dated layout status weekday date time) none =
-    let g = rule.good layout status weekday date time none in
-    let d = dates.good date (g .date-good) in
-    let t = times.good-range time (g .time-in-range) in
-    let m = month-28-to-31 (date .year) (date .month) .1 in
-    let c = century-small layout (date .year) in
-    held (digitsOut (Dated layout status weekday date time)) refl
-    (status-small layout status weekday, (weekday-small layout status weekday (weekday-bound weekday (g .weekday-allowed)), omega (arith, d, t)))
-digits-held (TimeOnly layout time) none =
-    let t = times.good time none in
-    held (digitsOut (TimeOnly layout time)) refl (omega (arith, t))
-
 -- A record's digits are 0 in each slot that its layout does not use.
 abbrev idle : Bool → ℕ → Type 0
 idle true digit = Unit {0}
@@ -119,88 +97,138 @@ idle-slots (TimeOnly T6021 time) = omega arith
 idle-slots (TimeOnly T5500 time) = omega arith
 idle-slots (TimeOnly T5050 time) = omega arith
 
-pub digits-idle : (rec : Record) (slot : ℕ) → usedIn slot (placesOf (ownLayout rec)) ≡ false → getD (digitsOut rec) slot 0 ≡ 0
+digits-idle : (rec : Record) (slot : ℕ) → usedIn slot (placesOf (ownLayout rec)) ≡ false → getD (digitsOut rec) slot 0 ≡ 0
 digits-idle rec slot e =
     idle-at (placesOf (ownLayout rec)) (digitsOut rec) 0 (idle-slots rec) slot (rw zero-add e)
 
--- Digits, from the record that they carry. Sixteen digits, spelled out:
+-- A good record's digits are such that its layout can show them.
+record Small (layout : DatedLayout) (status : Status) (weekday : ℕ) (date : Date) (time : Time) : Type 0 where
+  pub status-top : statusOut layout status ≤ 15
+  pub weekday-top : weekdayOut layout status weekday ≤ 15
+  pub century-top : centuryOut layout (date .year) ≤ 20
+  pub day-top : date .day ≤ 31
+  pub month-top : date .month ≤ 12
+  pub time-good : times.Good time
+
+small-fields : (layout : DatedLayout) (status : Status) (weekday : ℕ) (date : Date) (time : Time)
+    → refusalOf (Dated layout status weekday date time) ≡ 0 → Small layout status weekday date time
+small-fields layout status weekday date time none =
+    let g = rule.good layout status weekday date time none in
+    let d = dates.good date (g .date-good) in
+    let m = month-28-to-31 (date .year) (date .month) .1 in
+    record {
+      status-top = status-small layout status weekday;
+      weekday-top = weekday-small layout status weekday (weekday-bound weekday (g .weekday-allowed));
+      century-top = omega (arith, century-small layout (date .year), d);
+      day-top = omega (arith, d .to-day);
+      month-top = omega (arith, d);
+      time-good = times.good-range time (g .time-in-range);
+    }
+
+digits-shown : (rec : Record) → refusalOf rec ≡ 0 → allShown (digitsOut rec) (placesOf (ownLayout rec))
+unfolding placesOf
+digits-shown (Dated L6021 status weekday date time) none = omega (arith, small-fields L6021 status weekday date time none)
+digits-shown (Dated L2000 status weekday date time) none = omega (arith, small-fields L2000 status weekday date time none)
+digits-shown (Dated L5500 status weekday date time) none = omega (arith, small-fields L5500 status weekday date time none)
+digits-shown (Dated L5050 status weekday date time) none = omega (arith, small-fields L5050 status weekday date time none)
+digits-shown (TimeOnly T6021 time) none = omega (arith, times.good time none)
+digits-shown (TimeOnly T5500 time) none = omega (arith, times.good time none)
+digits-shown (TimeOnly T5050 time) none = omega (arith, times.good time none)
+
+digits-size : (rec : Record) → length (digitsOut rec) ≡ slots
+digits-size (Dated layout status weekday date time) = refl
+digits-size (TimeOnly layout time) = refl
+
+pub digits-held : (rec : Record) → refusalOf rec ≡ 0 → Held (placesOf (ownLayout rec)) (digitsOut rec)
+digits-held rec none = record { size = digits-size rec; each = digits-shown rec none; idle = digits-idle rec }
+
+-- Digits, from the record that they carry. The first ones, spelled out, and the empty ones behind them:
 abbrev spelled : ℕ → ℕ → List ℕ → List ℕ
-spelled k zero digits = []
+spelled k zero digits = emptyBehind k
 spelled k (suc n) digits = getD digits k 0 ∷ spelled (suc k) n digits
 
-spelled-from : (n k : ℕ) (digits : List ℕ) → length digits ≡ k + n → spelled k n digits ≡ drop k digits
-spelled-from zero k digits e = sym (drop-of-length-le digits {i = k} (omega arith))
-spelled-from (suc n) k digits e =
-    ap (λ rest. getD digits k 0 ∷ rest) (spelled-from n (suc k) digits (omega arith)) ∙ sym (drop-cons digits k 0 (omega arith))
+empty-from : (n k : ℕ) (digits : List ℕ) → length digits ≡ k + n → ((slot : ℕ) → k ≤ slot → slot < k + n → getD digits slot 0 ≡ 0)
+    → replicate n 0 ≡ drop k digits
+empty-from zero k digits e none = sym (drop-of-length-le digits {i = k} (omega arith))
+empty-from (suc n) k digits e none =
+    ap₂ _∷_ (sym (none k (omega arith) (omega arith))) (empty-from n (suc k) digits (omega arith) (λ slot low high. none slot (omega arith) (omega arith)))
+    ∙ sym (drop-cons digits k 0 (omega arith))
+
+spelled-from : (n k : ℕ) (digits : List ℕ) → length digits ≡ slots → k + n ≤ slots
+    → ((slot : ℕ) → k + n ≤ slot → slot < slots → getD digits slot 0 ≡ 0) → spelled k n digits ≡ drop k digits
+spelled-from zero k digits e fits none =
+    empty-from (slots - k) k digits (omega arith) (λ slot low high. none slot (omega arith) (omega arith))
+spelled-from (suc n) k digits e fits none =
+    ap (λ rest. getD digits k 0 ∷ rest) (spelled-from n (suc k) digits e (omega arith) (λ slot low high. none slot (omega arith) high))
+    ∙ sym (drop-cons digits k 0 (omega arith))
 
 infixr 5 _then_
 _then_ : {a b : ℕ} {as′ bs′ : List ℕ} → a ≡ b → as′ ≡ bs′ → (a ∷ as′) ≡ (b ∷ bs′)
 _then_ e es = ap₂ _∷_ e es
 
--- the digits of a time
-module _ (digits : List ℕ) (h : Held digits) where
-  small : (slot : ℕ) → limit slot ≡ 9 → getD digits slot 0 ≤ 9
-  small slot e = rw e at (h .within slot)
+-- the digits of a layout
+module _ (layout : Layout) (digits : List ℕ) (h : Held (placesOf layout) digits) where
+  top : (slot n : ℕ) → slot < slots → limit layout slot ≡ n → getD digits slot 0 ≤ n
+  top slot n inside e = omega (arith, held-most (placesOf layout) digits h slot, row-limit layout slot inside, e)
 
-  tens : (slot : ℕ) → limit slot ≡ 9 → limit (slot + 1) ≡ 9 → number digits slot / 10 ≡ getD digits slot 0
-  tens slot e f = tens-back _ _ (small slot e) (small (slot + 1) f)
+  tens : (slot : ℕ) → slot < 31 → limit layout slot ≡ 9 → limit layout (slot + 1) ≡ 9 → number digits slot / 10 ≡ getD digits slot 0
+  tens slot low e f = tens-back _ _ (top slot 9 (omega arith) e) (top (slot + 1) 9 (omega arith) f)
 
-  ones : (slot : ℕ) → limit slot ≡ 9 → limit (slot + 1) ≡ 9 → number digits slot % 10 ≡ getD digits (slot + 1) 0
-  ones slot e f = ones-back _ _ (small slot e) (small (slot + 1) f)
-
-  two-digits : (slot : ℕ) → limit slot ≡ 9 → limit (slot + 1) ≡ 9 → number digits slot ≤ 99
-  two-digits slot e f = omega (arith, small slot e, small (slot + 1) f)
-
-  code : (slot : ℕ) → limit slot ≡ 15 → getD digits slot 0 % 16 ≡ getD digits slot 0
-  code slot e = let top : getD digits slot 0 ≤ 15 = rw e at (h .within slot) in omega arith
+  ones : (slot : ℕ) → slot < 31 → limit layout slot ≡ 9 → limit layout (slot + 1) ≡ 9 → number digits slot % 10 ≡ getD digits (slot + 1) 0
+  ones slot low e f = ones-back _ _ (top slot 9 (omega arith) e) (top (slot + 1) 9 (omega arith) f)
 
 -- a layout with a two-digit year leaves the two slots of the century alone
-no-century : (layout : DatedLayout) (digits : List ℕ) → ((slot : ℕ) → usedIn slot (placesOf (layouts.Dated layout)) ≡ false → getD digits slot 0 ≡ 0)
-    → hasFullYear layout ≡ false → number digits 12 ≡ 0
+no-century : (layout : DatedLayout) (digits : List ℕ) → Held (placesOf (layouts.Dated layout)) digits → hasFullYear layout ≡ false → number digits 12 ≡ 0
 unfolding placesOf
-no-century L6021 digits alone e = omega (arith, alone 12 refl, alone 13 refl)
-no-century L2000 digits alone e = let z : _≡_ {A = ℕ} 0 1 = cc in absurd (omega arith)
-no-century L5500 digits alone e = omega (arith, alone 12 refl, alone 13 refl)
-no-century L5050 digits alone e = omega (arith, alone 12 refl, alone 13 refl)
+no-century L6021 digits h e = omega (arith, h .idle 12 refl, h .idle 13 refl)
+no-century L2000 digits h e = let z : _≡_ {A = ℕ} 0 1 = cc in absurd (omega arith)
+no-century L5500 digits h e = omega (arith, h .idle 12 refl, h .idle 13 refl)
+no-century L5050 digits h e = omega (arith, h .idle 12 refl, h .idle 13 refl)
 
--- a layout of the time alone uses the six slots of the time
-brief-uses : (layout : TimeLayout) (slot : ℕ) → usedIn slot (placesOf (layouts.TimeOnly layout)) ≡ usedIn slot (hh ++ mm ++ ss)
-unfolding placesOf
-brief-uses T6021 slot = refl
-brief-uses T5500 slot = refl
-brief-uses T5050 slot = refl
+module _ (layout : DatedLayout) (digits : List ℕ) (h : Held (placesOf (layouts.Dated layout)) digits) where
+  low-two : number digits 14 ≤ 99
+  low-two = omega (arith, top (layouts.Dated layout) digits h 14 9 (omega arith) refl, top (layouts.Dated layout) digits h 15 9 (omega arith) refl)
 
-pub digits-back : (layout : Layout) (digits : List ℕ) → Held digits
-    → ((slot : ℕ) → usedIn slot (placesOf layout) ≡ false → getD digits slot 0 ≡ 0)
-    → digitsOut (recordIn layout digits) ≡ digits
-digits-back (layouts.Dated layout) digits h alone =
-    let s = code digits h 0 refl in
-    let w = code digits h 1 refl in
-    let year-digits = year-low layout (number digits 12) (number digits 14) (two-digits digits h 14 refl refl) in
-    let century-digits =
-    century-back layout (number digits 12) (number digits 14) (two-digits digits h 14 refl refl) (no-century layout digits alone) in
-    (status-code-back layout _ _ (omega arith) (omega arith) ∙ s
-    then weekday-code-back layout _ _ (omega arith) (omega arith) ∙ w
-    then tens digits h 2 refl refl then ones digits h 2 refl refl
-    then tens digits h 4 refl refl then ones digits h 4 refl refl
-    then tens digits h 6 refl refl then ones digits h 6 refl refl
-    then tens digits h 8 refl refl then ones digits h 8 refl refl
-    then tens digits h 10 refl refl then ones digits h 10 refl refl
-    then ap (λ c. c / 10) century-digits ∙ tens digits h 12 refl refl
-    then ap (λ c. c % 10) century-digits ∙ ones digits h 12 refl refl
-    then ap (λ y. y / 10) year-digits ∙ tens digits h 14 refl refl
-    then ap (λ y. y % 10) year-digits ∙ ones digits h 14 refl refl
+  code : (slot : ℕ) → slot < slots → limit (layouts.Dated layout) slot ≡ 15 → (getD digits slot 0 ≤ 15) × (getD digits slot 0 % 16 ≡ getD digits slot 0)
+  code slot inside e = let small = top (layouts.Dated layout) digits h slot 15 inside e in (small, omega arith)
+
+  empty-dated : (slot : ℕ) → 16 ≤ slot → slot < slots → getD digits slot 0 ≡ 0
+  empty-dated slot low inside =
+      omega (arith, top (layouts.Dated layout) digits h slot 0 inside (rw (le-ltb slot 2 (omega arith), le-ltb slot 16 low)))
+
+empty-brief : (layout : TimeLayout) (digits : List ℕ) → Held (placesOf (layouts.TimeOnly layout)) digits
+    → (slot : ℕ) → 8 ≤ slot → slot < slots → getD digits slot 0 ≡ 0
+empty-brief layout digits h slot low inside =
+    omega (arith, top (layouts.TimeOnly layout) digits h slot 0 inside (rw (le-ltb slot 2 (omega arith), le-ltb slot 8 low)))
+
+pub digits-back : (layout : Layout) (digits : List ℕ) → Held (placesOf layout) digits → digitsOut (recordIn layout digits) ≡ digits
+digits-back (layouts.Dated layout) digits h =
+    let l = layouts.Dated layout in
+    let s = code layout digits h 0 (omega arith) refl in
+    let w = code layout digits h 1 (omega arith) refl in
+    let year-digits = year-low layout (number digits 12) (number digits 14) (low-two layout digits h) in
+    let century-digits = century-back layout (number digits 12) (number digits 14) (low-two layout digits h) (no-century layout digits h) in
+    (status-code-back layout _ _ (omega arith) (omega arith) ∙ s .1
+    then weekday-code-back layout _ _ (omega arith) (omega arith) ∙ w .1
+    then tens l digits h 2 (omega arith) refl refl then ones l digits h 2 (omega arith) refl refl
+    then tens l digits h 4 (omega arith) refl refl then ones l digits h 4 (omega arith) refl refl
+    then tens l digits h 6 (omega arith) refl refl then ones l digits h 6 (omega arith) refl refl
+    then tens l digits h 8 (omega arith) refl refl then ones l digits h 8 (omega arith) refl refl
+    then tens l digits h 10 (omega arith) refl refl then ones l digits h 10 (omega arith) refl refl
+    then ap (λ c. c / 10) century-digits ∙ tens l digits h 12 (omega arith) refl refl
+    then ap (λ c. c % 10) century-digits ∙ ones l digits h 12 (omega arith) refl refl
+    then ap (λ y. y / 10) year-digits ∙ tens l digits h 14 (omega arith) refl refl
+    then ap (λ y. y % 10) year-digits ∙ ones l digits h 14 (omega arith) refl refl
     then refl)
-    ∙ spelled-from 16 0 digits (omega (arith, h .size))
-digits-back (layouts.TimeOnly layout) digits h alone =
-    let none : (slot : ℕ) → usedIn slot (hh ++ mm ++ ss) ≡ false → getD digits slot 0 ≡ 0 =
-    λ slot e. alone slot (brief-uses layout slot ∙ e) in
-    (sym (none 0 refl)
-    then sym (none 1 refl)
-    then tens digits h 2 refl refl then ones digits h 2 refl refl
-    then tens digits h 4 refl refl then ones digits h 4 refl refl
-    then tens digits h 6 refl refl then ones digits h 6 refl refl
-    then sym (none 8 refl) then sym (none 9 refl) then sym (none 10 refl) then sym (none 11 refl)
-    then sym (none 12 refl) then sym (none 13 refl) then sym (none 14 refl) then sym (none 15 refl)
+    ∙ spelled-from 16 0 digits (h .size) (omega arith) (empty-dated layout digits h)
+digits-back (layouts.TimeOnly layout) digits h =
+    let l = layouts.TimeOnly layout in
+    let first = top l digits h 0 0 (omega arith) refl in
+    let second = top l digits h 1 0 (omega arith) refl in
+    (omega arith
+    then omega arith
+    then tens l digits h 2 (omega arith) refl refl then ones l digits h 2 (omega arith) refl refl
+    then tens l digits h 4 (omega arith) refl refl then ones l digits h 4 (omega arith) refl refl
+    then tens l digits h 6 (omega arith) refl refl then ones l digits h 6 (omega arith) refl refl
     then refl)
-    ∙ spelled-from 16 0 digits (omega (arith, h .size))
+    ∙ spelled-from 8 0 digits (h .size) (omega arith) (empty-brief layout digits h)

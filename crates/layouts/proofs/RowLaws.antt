@@ -4,13 +4,14 @@ use mathlib.Core.Bool.{Bool, true, false, cond, _&&_}
 use mathlib.Core.List.{List, map}
 use Prim.Native.Nat.{ℕ, _+_, _-_, _≤_, _<_}
 use native.Mathlib.Omega.{arith}
-use lib.Dec.{leb, eqb}
+use lib.Dec.{leb, ltb, eqb}
 use lib.ListN.{length, take, drop, getD, length-map}
 use borrow.Author.Tests.{leb-true, eqb-true}
 use Rattle.refusals.specs.Refusals.{Outcome, done}
-use Rattle.places.specs.Places.{Place, fixed, place, fixedHolds, every}
-use Rattle.places.proofs.Rows.{distinct, sound}
-use Rattle.places.proofs.Characters.{both}
+use Rattle.refusals.proofs.Laws.{both}
+use Rattle.refusals.proofs.Tables.{allBelow, below}
+use Rattle.places.specs.Places.{Place, fixed, slots, place, fixedHolds, every}
+use Rattle.places.proofs.Rows.{distinct, sound, most}
 use Rattle.places.proofs.RoundTrip.{every-at}
 use Rattle.record.specs.declared.DatedLayout.the-variants.{L6021, L2000, L5500, L5050}
 use Rattle.record.specs.declared.TimeLayout.the-variants.{T6021, T5500, T5050}
@@ -31,7 +32,7 @@ of-each P a b c d e f g (layouts.TimeOnly T6021) = e
 of-each P a b c d e f g (layouts.TimeOnly T5500) = f
 of-each P a b c d e f g (layouts.TimeOnly T5050) = g
 
--- no slot twice; codes in the first two slots, decimal digits in the others; no STX or ETX; 8 to 23 places
+-- no slot twice; every slot one of the slots, and no STX or ETX; 8 to 23 places
 test : List Place → Bool
 test row = distinct row && (sound row && (leb 8 (length row) && leb (length row) 23))
 
@@ -53,6 +54,24 @@ row-length layout =
     let rest = both (sound (placesOf layout)) _ (both (distinct (placesOf layout)) _ (tested layout) .1) .1 in
     let ends = both (leb 8 (length (placesOf layout))) _ rest in
     (leb-true _ _ (ends .0), leb-true _ _ (ends .1))
+
+-- a layout with a date shows codes in the first two slots and decimal digits in the next fourteen; one without, decimal digits in six
+abbrev pub limit : Layout → ℕ → ℕ
+limit (layouts.Dated layout) slot = cond (ltb slot 2) 15 (cond (ltb slot 16) 9 0)
+limit (layouts.TimeOnly layout) slot = cond (ltb slot 2) 0 (cond (ltb slot 8) 9 0)
+
+limits : (layout : Layout) → allBelow slots (λ slot. leb (most (placesOf layout) slot) (limit layout slot)) ≡ true
+unfolding placesOf
+limits (layouts.Dated L6021) = refl
+limits (layouts.Dated L2000) = refl
+limits (layouts.Dated L5500) = refl
+limits (layouts.Dated L5050) = refl
+limits (layouts.TimeOnly T6021) = refl
+limits (layouts.TimeOnly T5500) = refl
+limits (layouts.TimeOnly T5050) = refl
+
+pub row-limit : (layout : Layout) (slot : ℕ) → slot < slots → most (placesOf layout) slot ≤ limit layout slot
+row-limit layout slot inside = leb-true _ _ (below slots (λ k. leb (most (placesOf layout) k) (limit layout k)) (limits layout) slot inside)
 
 -- the part of the kept rows that a layout's span marks is that layout's row
 span-marks : (layout : Layout) → map place (take (length (placesOf layout)) (drop (rowStart layout) allRows)) ≡ placesOf layout

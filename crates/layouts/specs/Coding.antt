@@ -1,10 +1,11 @@
 -- Document 01, "The seven layouts": what the digits of a layout mean, and the digits of a record.
 use mathlib.Core.Bool.{Bool, true, false, cond}
-use mathlib.Core.List.{List, [], _∷_}
-use Prim.Native.Nat.{ℕ, zero, suc, _+_, _*_, _/_, _%_}
+use mathlib.Core.List.{List, _∷_}
+use Prim.Native.Nat.{ℕ, zero, suc, _+_, _-_, _*_, _/_, _%_}
 use lib.Dec.{ltb, eqb}
-use lib.ListN.{getD}
+use lib.ListN.{getD, replicate}
 use Rattle.bits.specs.Bits.{bit}
+use Rattle.places.specs.Places.{slots}
 use Rattle.calendar.specs.declared.date.Date.{Date}
 use Rattle.calendar.specs.declared.time.Time.{Time}
 use Rattle.record.specs.declared.DatedLayout.{DatedLayout}
@@ -116,14 +117,18 @@ recordIn (layouts.Dated layout) digits =
     Dated layout (statusIn layout (codeAt digits 0) (codeAt digits 1)) (weekdayIn layout (codeAt digits 1)) (dateIn layout digits) (timeIn digits)
 recordIn (layouts.TimeOnly layout) digits = TimeOnly layout (timeIn digits)
 
+-- the slots behind the first n, all empty
+abbrev pub emptyBehind : ℕ → List ℕ
+emptyBehind n = replicate (slots - n) 0
+
 -- the digits that a record's layout carries, 0 in each slot that it does not use
 abbrev pub digitsOut : Record → List ℕ
 digitsOut (Dated layout status weekday date time) =
     statusOut layout status ∷ weekdayOut layout status weekday
     ∷ time .hour / 10 ∷ time .hour % 10 ∷ time .minute / 10 ∷ time .minute % 10 ∷ time .second / 10 ∷ time .second % 10
     ∷ date .day / 10 ∷ date .day % 10 ∷ date .month / 10 ∷ date .month % 10
-    ∷ centuryOut layout (date .year) / 10 ∷ centuryOut layout (date .year) % 10 ∷ date .year % 100 / 10 ∷ date .year % 100 % 10 ∷ []
+    ∷ centuryOut layout (date .year) / 10 ∷ centuryOut layout (date .year) % 10 ∷ date .year % 100 / 10 ∷ date .year % 100 % 10 ∷ emptyBehind 16
 digitsOut (TimeOnly layout time) =
     0 ∷ 0
     ∷ time .hour / 10 ∷ time .hour % 10 ∷ time .minute / 10 ∷ time .minute % 10 ∷ time .second / 10 ∷ time .second % 10
-    ∷ 0 ∷ 0 ∷ 0 ∷ 0 ∷ 0 ∷ 0 ∷ 0 ∷ 0 ∷ []
+    ∷ emptyBehind 8

@@ -2,6 +2,7 @@
 use super::Layout;
 use calendar::date::Date;
 use calendar::time::Time;
+use places::SLOTS;
 use record::DatedLayout;
 use record::Reception;
 use record::Record;
@@ -157,7 +158,7 @@ fn pair(tens: u8, ones: u8) -> u8
     10 * (tens % 16) + ones % 16
 }
 
-fn year_in(layout: DatedLayout, digits: [u8; 16]) -> u16
+fn year_in(layout: DatedLayout, digits: [u8; SLOTS]) -> u16
     ensures { λ r. ⌜ r ≡ yearIn layout digits ⌝ }
 {
     let year = pair(digits[14], digits[15]);
@@ -167,7 +168,7 @@ fn year_in(layout: DatedLayout, digits: [u8; 16]) -> u16
     full_year(year)
 }
 
-fn time_in(digits: [u8; 16]) -> Time
+fn time_in(digits: [u8; SLOTS]) -> Time
     ensures { λ r. ⌜ r ≡ timeIn digits ⌝ }
 {
     Time {
@@ -177,7 +178,7 @@ fn time_in(digits: [u8; 16]) -> Time
     }
 }
 
-fn date_in(layout: DatedLayout, digits: [u8; 16]) -> Date
+fn date_in(layout: DatedLayout, digits: [u8; SLOTS]) -> Date
     ensures { λ r. ⌜ r ≡ dateIn layout digits ⌝ }
 {
     Date {
@@ -188,7 +189,7 @@ fn date_in(layout: DatedLayout, digits: [u8; 16]) -> Date
 }
 
 // The record that a layout's digits carry, right or wrong.
-pub fn record_in(layout: Layout, digits: [u8; 16]) -> Record
+pub fn record_in(layout: Layout, digits: [u8; SLOTS]) -> Record
     ensures { λ r. ⌜ r ≡ recordIn layout digits ⌝ }
 {
     let status = digits[0] % 16;
@@ -220,48 +221,26 @@ fn century_out(layout: DatedLayout, year: u16) -> u16
 }
 
 // The digits that a record's layout carries, and 0 in the slots that it does not use.
-pub fn digits_out(rec: Record) -> [u8; 16]
+#[rattlefmt::skip]
+pub fn digits_out(rec: Record) -> [u8; SLOTS]
     ensures { λ r. ⌜ r ≡ digitsOut rec ⌝ }
 {
     match rec {
         Record::Dated(layout, status, weekday, date, time) => {
             let century = century_out(layout, date.year);
             [
-                status_out(layout, status),
-                weekday_out(layout, status, weekday),
-                time.hour / 10,
-                time.hour % 10,
-                time.minute / 10,
-                time.minute % 10,
-                time.second / 10,
-                time.second % 10,
-                date.day / 10,
-                date.day % 10,
-                date.month / 10,
-                date.month % 10,
-                (century / 10) as u8,
-                (century % 10) as u8,
-                (date.year % 100 / 10) as u8,
-                (date.year % 100 % 10) as u8,
+                status_out(layout, status), weekday_out(layout, status, weekday),
+                time.hour / 10, time.hour % 10, time.minute / 10, time.minute % 10, time.second / 10, time.second % 10,
+                date.day / 10, date.day % 10, date.month / 10, date.month % 10,
+                (century / 10) as u8, (century % 10) as u8, (date.year % 100 / 10) as u8, (date.year % 100 % 10) as u8,
+                0, 0, 0, 0, 0, 0, 0, 0, 0, 0, 0, 0, 0, 0, 0, 0,
             ]
         }
         Record::TimeOnly(_, time) => [
-            0,
-            0,
-            time.hour / 10,
-            time.hour % 10,
-            time.minute / 10,
-            time.minute % 10,
-            time.second / 10,
-            time.second % 10,
-            0,
-            0,
-            0,
-            0,
-            0,
-            0,
-            0,
-            0,
+            0, 0,
+            time.hour / 10, time.hour % 10, time.minute / 10, time.minute % 10, time.second / 10, time.second % 10,
+            0, 0, 0, 0, 0, 0, 0, 0,
+            0, 0, 0, 0, 0, 0, 0, 0, 0, 0, 0, 0, 0, 0, 0, 0,
         ],
     }
 }

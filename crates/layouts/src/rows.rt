@@ -1,10 +1,13 @@
 // The seven layouts as data: a row of places each, without STX and ETX, and the layout that a length tells.
 use super::Layout;
+use places::FIRST_CODE;
+use places::FIRST_DECIMAL;
 use record::DatedLayout;
+use record::Record;
 use record::TimeLayout;
 use refusals::LENGTH;
 ghost use mathlib.Core.Path.{_≡_};
-ghost use Rattle.layouts.specs.Layouts.{allRows, spanOf, layoutOf, byTrailer};
+ghost use Rattle.layouts.specs.Layouts.{allRows, spanOf, ownLayout, layoutOf, byTrailer};
 ghost use Rattle.layouts.specs.Answers.{layoutAnswer};
 
 const LF: u8 = b'\n';
@@ -14,38 +17,38 @@ const CR: u8 = b'\r';
 const SP: u8 = b' ';
 
 // Places that hold a digit: its slot, counted from the first decimal or the first code place.
-const ST: u8 = 144;
+const ST: u8 = FIRST_CODE;
 
-const WD: u8 = 145;
+const WD: u8 = FIRST_CODE + 1;
 
 // Behind the letters of hour, minute, second, day, month and year stands the power of ten.
-const H1: u8 = 130;
+const H1: u8 = FIRST_DECIMAL + 2;
 
-const H0: u8 = 131;
+const H0: u8 = FIRST_DECIMAL + 3;
 
-const M1: u8 = 132;
+const M1: u8 = FIRST_DECIMAL + 4;
 
-const M0: u8 = 133;
+const M0: u8 = FIRST_DECIMAL + 5;
 
-const S1: u8 = 134;
+const S1: u8 = FIRST_DECIMAL + 6;
 
-const S0: u8 = 135;
+const S0: u8 = FIRST_DECIMAL + 7;
 
-const D1: u8 = 136;
+const D1: u8 = FIRST_DECIMAL + 8;
 
-const D0: u8 = 137;
+const D0: u8 = FIRST_DECIMAL + 9;
 
-const MO1: u8 = 138;
+const MO1: u8 = FIRST_DECIMAL + 10;
 
-const MO0: u8 = 139;
+const MO0: u8 = FIRST_DECIMAL + 11;
 
-const Y3: u8 = 140;
+const Y3: u8 = FIRST_DECIMAL + 12;
 
-const Y2: u8 = 141;
+const Y2: u8 = FIRST_DECIMAL + 13;
 
-const Y1: u8 = 142;
+const Y1: u8 = FIRST_DECIMAL + 14;
 
-const Y0: u8 = 143;
+const Y0: u8 = FIRST_DECIMAL + 15;
 
 // Where a row stands among the rows.
 pub struct Span {
@@ -77,6 +80,7 @@ pub fn rows() -> [u8; 103]
     ROWS
 }
 
+// The part of the rows that is a layout's row.
 pub fn span_of(layout: Layout) -> Span
     ensures { λ r. ⌜ r ≡ spanOf layout ⌝ }
 {
@@ -98,6 +102,16 @@ pub fn span_of(layout: Layout) -> Span
     }
 }
 
+// A record's own layout.
+pub fn own_layout(rec: Record) -> Layout
+    ensures { λ r. ⌜ r ≡ ownLayout rec ⌝ }
+{
+    match rec {
+        Record::Dated(layout, _, _, _, _) => Layout::Dated(layout),
+        Record::TimeOnly(layout, _) => Layout::TimeOnly(layout),
+    }
+}
+
 // Of two layouts with one length, the order of LF and CR decides.
 fn by_trailer(body: &[u8]) -> Layout
     ensures { λ r. ⌜ r ≡ byTrailer (now (body .entry)) ⌝ }
@@ -114,6 +128,7 @@ fn by_trailer(body: &[u8]) -> Layout
     Layout::TimeOnly(TimeLayout::T6021)
 }
 
+// The layout of a body by its length, or 1.
 pub fn layout_of(body: &[u8]) -> LayoutAnswer
     ensures { λ r. ⌜ layoutAnswer r ≡ layoutOf (now (body .entry)) ⌝ }
 {

@@ -6,7 +6,7 @@ use native.Mathlib.Nat.{zero-add}
 use native.Mathlib.Numerals.{add-one}
 use native.Mathlib.Omega.{arith}
 use lib.ListN.{length, take, drop, getD, set, length-map, List·getD-map, drop-of-length-le}
-use lib.Seq.{paste, paste-zero, paste-suc, length-paste, take-all}
+use lib.Seq.{paste, paste-zero, paste-suc, take-all}
 use Rattle.places.specs.Places.{Place, place, byteAt, render, over}
 
 -- a row makes one byte a place
@@ -15,10 +15,7 @@ unfolding render
 length-render row digits = length-map row (byteAt digits)
 
 module _ (row : List ℕ) (digits : List ℕ) (out : List ℕ) where
-  abbrev pub bytes : List ℕ
-  bytes = render (map place row) digits
-
-  pub length-bytes : length (render (map place row) digits) ≡ length row
+  length-bytes : length (render (map place row) digits) ≡ length row
   length-bytes = length-render (map place row) digits ∙ length-map row place
 
   -- the buffer with the first n bytes laid over it
@@ -38,9 +35,6 @@ module _ (row : List ℕ) (digits : List ℕ) (out : List ℕ) where
       ap₂ (λ k v. set (laid at) k v) (sym (zero-add at)) (sym (byte-is at))
       ∙ paste-suc out 0 _ at (byteAt digits (place 0)) (omega arith) (omega (arith, length-bytes))
       ∙ ap laid (sym (add-one at))
-
-  pub length-laid : (at : ℕ) → at ≤ length row → at ≤ length out → length (laid at) ≡ length out
-  length-laid at r o = length-paste out 0 _ at (omega arith) (omega (arith, length-bytes))
 
   -- all of the row, or all of the buffer
   pub laid-row : length row ≤ length out → laid (length row) ≡ over (render (map place row) digits) out

@@ -7,27 +7,11 @@ use native.Mathlib.Omega.{arith}
 use lib.Dec.{eqb}
 use lib.ListN.{length, getD, set, replicate, length-set}
 use lib.Seq.{getD-set-same, getD-set-other, ext-getD}
-use borrow.Author.Tests.{eq-eqb, eqb-true, eqb-false, leb-true, ltb-true, le-ltb, not-true}
-use Rattle.places.specs.Places.{Place, fixed, decimal, code, codeValue, codeCharacter, fixedHolds, decimalHolds, codeHolds, every, store, gather, noDigits, byteAt, render}
-use Rattle.places.proofs.Characters.{both, character-fits, character-decimal, value-of-character, decimal-back, code-back, decimal-small, code-small}
-use Rattle.places.proofs.Rows.{uses, usedIn, apart, distinct, limit, soundPlace, sound}
-
--- sixteen digits, each within its slot's limit
-pub record Held (digits : List ℕ) : Type 0 where
-  pub size : length digits ≡ 16
-  pub within : (slot : ℕ) → getD digits slot 0 ≤ limit slot
-
-decimal-limit : (slot : ℕ) → soundPlace (decimal slot) ≡ true → (slot < 16) × (limit slot ≡ 9)
-decimal-limit slot e =
-    let h = both _ _ e in
-    let low = leb-true 2 slot (h .0) in
-    let high = leb-true slot 15 (h .1) in
-    (omega arith, rw (le-ltb slot 2 low))
-
-code-limit : (slot : ℕ) → soundPlace (code slot) ≡ true → (slot < 16) × (limit slot ≡ 15)
-code-limit slot e =
-    let h = ltb-true slot 2 e in
-    (omega arith, rw e)
+use borrow.Author.Tests.{eq-eqb, eqb-true, eqb-false, ltb-true, not-true}
+use Rattle.refusals.proofs.Laws.{both}
+use Rattle.places.specs.Places.{Place, fixed, decimal, code, slots, codeValue, codeCharacter, fixedHolds, decimalHolds, codeHolds, every, store, gather, noDigits, byteAt, render}
+use Rattle.places.proofs.Characters.{character-fits, character-decimal, value-of-character, decimal-back, code-back, decimal-small, code-small}
+use Rattle.places.proofs.Rows.{uses, usedIn, apart, distinct, soundPlace, sound, shown, allShown, most, Held}
 
 -- what is rendered fits its row
 all-hold : (holds : Place → ℕ → Bool) (digits : List ℕ) → ((p : Place) → holds p (byteAt digits p) ≡ true)
@@ -56,17 +40,13 @@ module _ (row : List Place) (digits : List ℕ) where
 sound-parts : (p : Place) (row : List Place) → sound (p ∷ row) ≡ true → (soundPlace p ≡ true) × (sound row ≡ true)
 sound-parts p row e = both (soundPlace p) (sound row) e
 
-pub decimals-rendered : (row : List Place) (digits : List ℕ) → Held digits → sound row ≡ true → every decimalHolds row (render row digits) ≡ true
+pub decimals-rendered : (row : List Place) (digits : List ℕ) → allShown digits row → every decimalHolds row (render row digits) ≡ true
 unfolding render
-decimals-rendered [] digits held fits = refl
-decimals-rendered (fixed character ∷ row) digits held fits =
-    decimals-rendered row digits held (sound-parts (fixed character) row fits .1)
-decimals-rendered (decimal slot ∷ row) digits held fits =
-    let f = sound-parts (decimal slot) row fits in
-    let small = held .within slot in
-    let top = decimal-limit slot (f .0) .1 in
-    rw (character-decimal (getD digits slot 0 % 16) (omega arith)) (decimals-rendered row digits held (f .1))
-decimals-rendered (code slot ∷ row) digits held fits = decimals-rendered row digits held (sound-parts (code slot) row fits .1)
+decimals-rendered [] digits each = refl
+decimals-rendered (fixed character ∷ row) digits each = decimals-rendered row digits (each .1)
+decimals-rendered (decimal slot ∷ row) digits each =
+    rw (character-decimal (getD digits slot 0 % 16) (omega (arith, each .0))) (decimals-rendered row digits (each .1))
+decimals-rendered (code slot ∷ row) digits each = decimals-rendered row digits (each .1)
 
 -- a slot after a store
 stored : (base : List ℕ) (at value slot : ℕ) → at < length base
@@ -83,19 +63,19 @@ length-store (decimal slot) byte base = length-set base slot (codeValue byte)
 length-store (code slot) byte base = length-set base slot (codeValue byte)
 
 -- a slot that the row does not use stays as it was
-outside-store : (p : Place) (byte slot : ℕ) (base : List ℕ) → uses slot p ≡ false → length base ≡ 16 → soundPlace p ≡ true
+outside-store : (p : Place) (byte slot : ℕ) (base : List ℕ) → uses slot p ≡ false → length base ≡ slots → soundPlace p ≡ true
     → getD (store p byte base) slot 0 ≡ getD base slot 0
 outside-store (fixed character) byte slot base no-use size fits = refl
 outside-store (decimal at) byte slot base no-use size fits =
-    stored base at (codeValue byte) slot (omega (arith, decimal-limit at fits .0)) ∙ rw no-use
+    stored base at (codeValue byte) slot (omega (arith, ltb-true at slots fits)) ∙ rw no-use
 outside-store (code at) byte slot base no-use size fits =
-    stored base at (codeValue byte) slot (omega (arith, code-limit at fits .0)) ∙ rw no-use
+    stored base at (codeValue byte) slot (omega (arith, ltb-true at slots fits)) ∙ rw no-use
 
 neither : (a b : Bool) → (a || b) ≡ false → (a ≡ false) × (b ≡ false)
 neither true b e = let z : _≡_ {A = ℕ} 0 1 = cc in absurd (omega arith)
 neither false b e = (refl, e)
 
-pub gather-outside : (row : List Place) (bytes base : List ℕ) (slot : ℕ) → usedIn slot row ≡ false → sound row ≡ true → length base ≡ 16
+gather-outside : (row : List Place) (bytes base : List ℕ) (slot : ℕ) → usedIn slot row ≡ false → sound row ≡ true → length base ≡ slots
     → getD (gather row bytes base) slot 0 ≡ getD base slot 0
 gather-outside [] bytes base slot no-use fits size = refl
 gather-outside (p ∷ row) [] base slot no-use fits size = refl
@@ -117,18 +97,9 @@ merged at slot value used digits base v = go (eqb at slot) refl used
     go true e false = v ∙ ap (λ s. getD digits s 0) (eqb-true at slot e)
     go false e u = refl
 
-module _ (digits : List ℕ) (held : Held digits) where
-  decimal-read : (slot : ℕ) → soundPlace (decimal slot) ≡ true → codeValue (codeCharacter (getD digits slot 0 % 16)) ≡ getD digits slot 0
-  decimal-read slot fits =
-      let small = held .within slot in
-      let top = decimal-limit slot fits .1 in
-      value-of-character (getD digits slot 0 % 16) (omega arith) ∙ omega arith
-
-  code-read : (slot : ℕ) → soundPlace (code slot) ≡ true → codeValue (codeCharacter (getD digits slot 0 % 16)) ≡ getD digits slot 0
-  code-read slot fits =
-      let small = held .within slot in
-      let top = code-limit slot fits .1 in
-      value-of-character (getD digits slot 0 % 16) (omega arith) ∙ omega arith
+module _ (digits : List ℕ) where
+  digit-read : (slot : ℕ) → getD digits slot 0 ≤ 15 → codeValue (codeCharacter (getD digits slot 0 % 16)) ≡ getD digits slot 0
+  digit-read slot small = value-of-character (getD digits slot 0 % 16) (omega arith) ∙ omega arith
 
   -- a slot's digit, stored and read again
   through : (row : List Place) (base bytes : List ℕ) (at value slot : ℕ) → at < length base → value ≡ getD digits at 0
@@ -139,42 +110,40 @@ module _ (digits : List ℕ) (held : Held digits) where
       ∙ ap (λ x. cond (usedIn slot row) (getD digits slot 0) x) (stored base at value slot fits)
       ∙ merged at slot value (usedIn slot row) digits base v
 
-  read-at : (row : List Place) (base : List ℕ) (slot : ℕ) → sound row ≡ true → length base ≡ 16
+  read-at : (row : List Place) (base : List ℕ) (slot : ℕ) → allShown digits row → sound row ≡ true → length base ≡ slots
       → getD (gather row (render row digits) base) slot 0 ≡ cond (usedIn slot row) (getD digits slot 0) (getD base slot 0)
   unfolding render
-  read-at [] base slot fits size = refl
-  read-at (fixed character ∷ row) base slot fits size =
-      read-at row base slot (sound-parts (fixed character) row fits .1) size
-  read-at (decimal at ∷ row) base slot fits size =
+  read-at [] base slot each fits size = refl
+  read-at (fixed character ∷ row) base slot each fits size =
+      read-at row base slot (each .1) (sound-parts (fixed character) row fits .1) size
+  read-at (decimal at ∷ row) base slot each fits size =
       let f = sound-parts (decimal at) row fits in
-      through row base _ at _ slot (omega (arith, decimal-limit at (f .0) .0)) (decimal-read at (f .0))
-      (read-at row (set base at (codeValue (codeCharacter (getD digits at 0 % 16)))) slot (f .1) (length-set base at _ ∙ size))
-  read-at (code at ∷ row) base slot fits size =
+      through row base _ at _ slot (omega (arith, ltb-true at slots (f .0))) (digit-read at (omega (arith, each .0)))
+      (read-at row (set base at (codeValue (codeCharacter (getD digits at 0 % 16)))) slot (each .1) (f .1) (length-set base at _ ∙ size))
+  read-at (code at ∷ row) base slot each fits size =
       let f = sound-parts (code at) row fits in
-      through row base _ at _ slot (omega (arith, code-limit at (f .0) .0)) (code-read at (f .0))
-      (read-at row (set base at (codeValue (codeCharacter (getD digits at 0 % 16)))) slot (f .1) (length-set base at _ ∙ size))
+      through row base _ at _ slot (omega (arith, ltb-true at slots (f .0))) (digit-read at (each .0))
+      (read-at row (set base at (codeValue (codeCharacter (getD digits at 0 % 16)))) slot (each .1) (f .1) (length-set base at _ ∙ size))
 
 length-gather : (row : List Place) (bytes base : List ℕ) → length (gather row bytes base) ≡ length base
 length-gather [] bytes base = refl
 length-gather (p ∷ row) [] base = refl
 length-gather (p ∷ row) (byte ∷ bytes) base = length-gather row bytes (store p byte base) ∙ length-store p byte base
 
-pub no-digit : (n slot : ℕ) → _≡_ {A = ℕ} (getD (replicate n 0) slot 0) 0
+no-digit : (n slot : ℕ) → _≡_ {A = ℕ} (getD (replicate n 0) slot 0) 0
 no-digit zero slot = refl
 no-digit (suc n) zero = refl
 no-digit (suc n) (suc slot) = no-digit n slot
 
--- What is rendered reads back: the digits are the same, where they are 0 in each slot that the row does not use.
-pub reads-back : (row : List Place) (digits : List ℕ) → Held digits → sound row ≡ true
-    → ((slot : ℕ) → usedIn slot row ≡ false → getD digits slot 0 ≡ 0)
-    → gather row (render row digits) noDigits ≡ digits
-reads-back row digits held fits idle =
+-- What is rendered reads back: the digits are the same.
+pub reads-back : (row : List Place) (digits : List ℕ) → Held row digits → sound row ≡ true → gather row (render row digits) noDigits ≡ digits
+reads-back row digits held fits =
     ext-getD 0 _ digits (length-gather row (render row digits) noDigits ∙ sym (held .size))
-    (λ slot below. read-at digits held row noDigits slot fits refl ∙ other (usedIn slot row) slot refl)
+    (λ slot below. read-at digits row noDigits slot (held .each) fits refl ∙ other (usedIn slot row) slot refl)
   where
     other : (t : Bool) (slot : ℕ) → usedIn slot row ≡ t → cond t (getD digits slot 0) (getD noDigits slot 0) ≡ getD digits slot 0
     other true slot e = refl
-    other false slot e = no-digit 16 slot ∙ sym (idle slot e)
+    other false slot e = no-digit slots slot ∙ sym (held .idle slot e)
 
 -- What reads is what is rendered: a row that uses no slot twice makes the bytes again from their digits.
 byte-back : (p : Place) (byte : ℕ) (digits : List ℕ) → fixedHolds p byte ≡ true → decimalHolds p byte ≡ true → codeHolds p byte ≡ true
@@ -184,40 +153,29 @@ byte-back (decimal slot) byte digits f d c at = rw (at slot (eq-eqb slot slot re
 byte-back (code slot) byte digits f d c at = rw (at slot (eq-eqb slot slot refl)) (code-back byte c)
 
 slot-kept : (row : List Place) (byte : ℕ) (bytes base : List ℕ) (at slot : ℕ) → eqb at slot ≡ true → usedIn at row ≡ false → sound row ≡ true
-    → length base ≡ 16 → at < 16 → getD (gather row bytes (set base at (codeValue byte))) slot 0 ≡ codeValue byte
+    → length base ≡ slots → at < slots → getD (gather row bytes (set base at (codeValue byte))) slot 0 ≡ codeValue byte
 slot-kept row byte bytes base at slot same alone fits size below =
     rw (← eqb-true at slot same)
     (gather-outside row bytes (set base at (codeValue byte)) at alone fits (length-set base at _ ∙ size)
     ∙ getD-set-same base at (codeValue byte) 0 (omega arith))
 
-held-set : (base : List ℕ) (at value : ℕ) → Held base → at < 16 → value ≤ limit at → Held (set base at value)
-held-set base at value held below small =
-    record {
-      size = length-set base at value ∙ held .size;
-      within = λ slot. rw (stored base at value slot (omega (arith, held .size))) (go slot (eqb at slot) refl);
-    }
-  where
-    go : (slot : ℕ) (t : Bool) → eqb at slot ≡ t → cond t value (getD base slot 0) ≤ limit slot
-    go slot true e = rw (← eqb-true at slot e) small
-    go slot false e = held .within slot
-
 -- the slot of a place holds its byte's value in the end, where no later place uses that slot
-kept : (p : Place) (row : List Place) (byte : ℕ) (bytes base : List ℕ) → apart p row ≡ true → sound (p ∷ row) ≡ true → length base ≡ 16
+kept : (p : Place) (row : List Place) (byte : ℕ) (bytes base : List ℕ) → apart p row ≡ true → sound (p ∷ row) ≡ true → length base ≡ slots
     → (slot : ℕ) → uses slot p ≡ true → getD (gather row bytes (store p byte base)) slot 0 ≡ codeValue byte
 kept (fixed character) row byte bytes base alone fits size slot same = let z : _≡_ {A = ℕ} 0 1 = cc in absurd (omega arith)
 kept (decimal at) row byte bytes base alone fits size slot same =
     let f = sound-parts (decimal at) row fits in
-    slot-kept row byte bytes base at slot same (not-true _ alone) (f .1) size (decimal-limit at (f .0) .0)
+    slot-kept row byte bytes base at slot same (not-true _ alone) (f .1) size (ltb-true at slots (f .0))
 kept (code at) row byte bytes base alone fits size slot same =
     let f = sound-parts (code at) row fits in
-    slot-kept row byte bytes base at slot same (not-true _ alone) (f .1) size (code-limit at (f .0) .0)
+    slot-kept row byte bytes base at slot same (not-true _ alone) (f .1) size (ltb-true at slots (f .0))
 
 -- the three tests of a row's bytes, taken apart
 module _ (p : Place) (row : List Place) (byte : ℕ) (bytes : List ℕ) where
   every-parts : (holds : Place → ℕ → Bool) → every holds (p ∷ row) (byte ∷ bytes) ≡ true → (holds p byte ≡ true) × (every holds row bytes ≡ true)
   every-parts holds e = both (holds p byte) (every holds row bytes) e
 
-pub makes-again : (row : List Place) (bytes base : List ℕ) → distinct row ≡ true → sound row ≡ true → length bytes ≡ length row → length base ≡ 16
+pub makes-again : (row : List Place) (bytes base : List ℕ) → distinct row ≡ true → sound row ≡ true → length bytes ≡ length row → length base ≡ slots
     → every fixedHolds row bytes ≡ true → every decimalHolds row bytes ≡ true → every codeHolds row bytes ≡ true
     → render row (gather row bytes base) ≡ bytes
 unfolding render
@@ -233,29 +191,50 @@ makes-again (p ∷ row) (byte ∷ bytes) base alone fits same size f d c =
     let later = makes-again row bytes (store p byte base) (a .1) (sound-parts p row fits .1) (omega arith) (length-store p byte base ∙ size) (fs .1) (ds .1) (cs .1) in
     ap₂ _∷_ here later
 
--- Digits that were read stay within their slots' limits.
-held-store : (p : Place) (byte : ℕ) (base : List ℕ) → soundPlace p ≡ true → decimalHolds p byte ≡ true → codeHolds p byte ≡ true
-    → Held base → Held (store p byte base)
-held-store (fixed character) byte base fits d c held = held
-held-store (decimal at) byte base fits d c held =
-    let limit-at = decimal-limit at fits in
-    held-set base at (codeValue byte) held (limit-at .0) (omega (arith, limit-at .1, decimal-small byte d))
-held-store (code at) byte base fits d c held =
-    let limit-at = code-limit at fits in
-    held-set base at (codeValue byte) held (limit-at .0) (omega (arith, limit-at .1, code-small byte c))
+-- Digits that were read are digits that the row can carry.
+shown-here : (p : Place) (byte : ℕ) (digits : List ℕ) → decimalHolds p byte ≡ true → codeHolds p byte ≡ true
+    → ((slot : ℕ) → uses slot p ≡ true → getD digits slot 0 ≡ codeValue byte) → shown digits p
+shown-here (fixed character) byte digits d c at = tt
+shown-here (decimal slot) byte digits d c at = omega (arith, at slot (eq-eqb slot slot refl), decimal-small byte d)
+shown-here (code slot) byte digits d c at = omega (arith, at slot (eq-eqb slot slot refl), code-small byte c)
 
-pub held-gather : (row : List Place) (bytes base : List ℕ) → sound row ≡ true → every decimalHolds row bytes ≡ true → every codeHolds row bytes ≡ true
-    → Held base → Held (gather row bytes base)
-held-gather [] bytes base fits d c held = held
-held-gather (p ∷ row) [] base fits d c held = held
-held-gather (p ∷ row) (byte ∷ bytes) base fits d c held =
-    let f = sound-parts p row fits in
+shown-gather : (row : List Place) (bytes base : List ℕ) → distinct row ≡ true → sound row ≡ true → length bytes ≡ length row → length base ≡ slots
+    → every decimalHolds row bytes ≡ true → every codeHolds row bytes ≡ true → allShown (gather row bytes base) row
+shown-gather [] bytes base alone fits same size d c = tt
+shown-gather (p ∷ row) [] base alone fits same size d c = absurd (omega arith)
+shown-gather (p ∷ row) (byte ∷ bytes) base alone fits same size d c =
+    let a = both (apart p row) (distinct row) alone in
     let ds = every-parts p row byte bytes decimalHolds d in
     let cs = every-parts p row byte bytes codeHolds c in
-    held-gather row bytes (store p byte base) (f .1) (ds .1) (cs .1) (held-store p byte base (f .0) (ds .0) (cs .0) held)
+    (shown-here p byte _ (ds .0) (cs .0) (kept p row byte bytes base (a .0) fits size), shown-gather row bytes (store p byte base) (a .1) (sound-parts p row fits .1) (omega arith) (length-store p byte base ∙ size) (ds .1) (cs .1))
 
-pub held-none : Held noDigits
-held-none = record { size = refl; within = λ slot. omega (arith, no-digit 16 slot) }
+pub held-gather : (row : List Place) (bytes : List ℕ) → distinct row ≡ true → sound row ≡ true → length bytes ≡ length row
+    → every decimalHolds row bytes ≡ true → every codeHolds row bytes ≡ true → Held row (gather row bytes noDigits)
+held-gather row bytes alone fits same d c =
+    record {
+      size = length-gather row bytes noDigits;
+      each = shown-gather row bytes noDigits alone fits same refl d c;
+      idle = λ slot e. gather-outside row bytes noDigits slot e fits refl ∙ no-digit slots slot;
+    }
+
+-- Digits that a row can carry are at most what it can show in their slots.
+module _ (digits : List ℕ) (slot : ℕ) where
+  at-most : (at top rest : ℕ) (used : Bool) → getD digits at 0 ≤ top → ((used ≡ false → getD digits slot 0 ≡ 0) → getD digits slot 0 ≤ rest)
+      → ((eqb at slot || used) ≡ false → getD digits slot 0 ≡ 0) → getD digits slot 0 ≤ cond (eqb at slot) top rest
+  at-most at top rest used here later idle = go (eqb at slot) refl idle
+    where
+      go : (t : Bool) → eqb at slot ≡ t → ((t || used) ≡ false → getD digits slot 0 ≡ 0) → getD digits slot 0 ≤ cond t top rest
+      go true e f = rw (← eqb-true at slot e) here
+      go false e f = later f
+
+  shown-most : (row : List Place) → allShown digits row → (usedIn slot row ≡ false → getD digits slot 0 ≡ 0) → getD digits slot 0 ≤ most row slot
+  shown-most [] each idle = omega (arith, idle refl)
+  shown-most (fixed character ∷ row) each idle = shown-most row (each .1) idle
+  shown-most (decimal at ∷ row) each idle = at-most at 9 _ (usedIn slot row) (each .0) (shown-most row (each .1)) idle
+  shown-most (code at ∷ row) each idle = at-most at 15 _ (usedIn slot row) (each .0) (shown-most row (each .1)) idle
+
+pub held-most : (row : List Place) (digits : List ℕ) → Held row digits → (slot : ℕ) → getD digits slot 0 ≤ most row slot
+held-most row digits held slot = shown-most digits slot row (held .each) (held .idle slot)
 
 -- a test that holds at each place of a row holds at any one of them
 pub every-at : (holds : Place → ℕ → Bool) (row : List Place) (bytes : List ℕ) (p : Place) → every holds row bytes ≡ true

@@ -2,13 +2,14 @@
 use mathlib.Core.Path.{_≡_, refl, ap, sym, _∙_}
 use mathlib.Core.Bool.{Bool, true, false, cond, _&&_}
 use mathlib.Core.List.{List, [], _∷_, map}
-use Prim.Native.Nat.{ℕ, zero, suc, _+_, _%_, _≤_, _<_, min}
-use native.Mathlib.Omega.{arith}
+use Prim.Native.Nat.{ℕ, suc, _+_, _%_, _≤_, _<_}
 use lib.Dec.{ltb}
 use native.Mathlib.Numerals.{add-one}
 use lib.ListN.{length, drop, getD, set, drop-of-length-le}
 use lib.Seq.{drop-cons, set-getD}
-use Rattle.places.specs.Places.{Place, fixed, decimal, code, place, fixedHolds, decimalHolds, codeHolds, every, store, keptAt, gather, faultOf, rowFault, placeFault, lower, noDigits, foundIn}
+use Rattle.refusals.specs.Refusals.{lower}
+use Rattle.refusals.proofs.Laws.{lower-none, lower-assoc}
+use Rattle.places.specs.Places.{Place, fixed, decimal, code, place, fixedHolds, decimalHolds, codeHolds, every, store, keptAt, gather, faultOf, rowFault, placeFault, slots, firstDecimal, firstCode, noDigits, foundIn}
 use Rattle.places.specs.declared.Found.{Found}
 
 -- what is found in the end, from what was found so far
@@ -17,17 +18,6 @@ onward row bytes so-far = record { digits = gather row bytes (so-far .digits); f
 
 abbrev pub fresh : Found
 fresh = record { digits = noDigits; fault = 0 }
-
--- `lower` is an order's minimum: 0 is its top
-lower-none : (a : ℕ) → lower a 0 ≡ a
-lower-none zero = refl
-lower-none (suc a) = refl
-
-lower-assoc : (a b c : ℕ) → lower (lower a b) c ≡ lower b (lower a c)
-lower-assoc zero b c = refl
-lower-assoc (suc a) zero c = refl
-lower-assoc (suc a) (suc b) zero = let same : min a b ≡ min b a = omega arith in ap suc same
-lower-assoc (suc a) (suc b) (suc c) = let same : min (min a b) c ≡ min b (min a c) = omega arith in ap suc same
 
 -- the fault of two parts is the lower of their faults
 two-parts : (f d c f′ d′ c′ : Bool) → faultOf (f && f′) (d && d′) (c && c′) ≡ lower (faultOf f d c) (faultOf f′ d′ c′)
@@ -63,20 +53,20 @@ onward-cons p row byte bytes so-far =
     λ i. record { digits = gather (p ∷ row) (byte ∷ bytes) (so-far .digits); fault = fault i }
 
 -- a store at the slot that a place's number names
-store-at : (n byte : ℕ) (digits : List ℕ) → store (place n) byte digits ≡ set digits (n % 16) (keptAt (place n) byte (getD digits (n % 16) 0))
+store-at : (n byte : ℕ) (digits : List ℕ) → store (place n) byte digits ≡ set digits (n % slots) (keptAt (place n) byte (getD digits (n % slots) 0))
 unfolding place
-store-at n byte digits = go (ltb n 128) (ltb n 144)
+store-at n byte digits = go (ltb n firstDecimal) (ltb n firstCode)
   where
     go : (a b : Bool)
-        → store (cond a (fixed n) (cond b (decimal (n % 16)) (code (n % 16)))) byte digits
-        ≡ set digits (n % 16) (keptAt (cond a (fixed n) (cond b (decimal (n % 16)) (code (n % 16)))) byte (getD digits (n % 16) 0))
-    go true b = sym (set-getD digits (n % 16) 0)
+        → store (cond a (fixed n) (cond b (decimal (n % slots)) (code (n % slots)))) byte digits
+        ≡ set digits (n % slots) (keptAt (cond a (fixed n) (cond b (decimal (n % slots)) (code (n % slots)))) byte (getD digits (n % slots) 0))
+    go true b = sym (set-getD digits (n % slots) 0)
     go false true = refl
     go false false = refl
 
 -- one turn
 pub onward-step : (row bytes : List ℕ) (at : ℕ) (so-far next : Found) → at < length row → at < length bytes
-    → next .digits ≡ set (so-far .digits) (getD row at 0 % 16) (keptAt (place (getD row at 0)) (getD bytes at 0) (getD (so-far .digits) (getD row at 0 % 16) 0))
+    → next .digits ≡ set (so-far .digits) (getD row at 0 % slots) (keptAt (place (getD row at 0)) (getD bytes at 0) (getD (so-far .digits) (getD row at 0 % slots) 0))
     → next .fault ≡ lower (placeFault (place (getD row at 0)) (getD bytes at 0)) (so-far .fault)
     → onward (map place (drop (at + 1) row)) (drop (at + 1) bytes) next
     ≡ onward (map place (drop at row)) (drop at bytes) so-far
@@ -100,17 +90,3 @@ onward-row-ends row bytes at so-far h = rw (drop-of-length-le row h)
 pub onward-bytes-end : (row bytes : List ℕ) (at : ℕ) (so-far : Found) → length bytes ≤ at
     → onward (map place (drop at row)) (drop at bytes) so-far ≡ so-far
 onward-bytes-end row bytes at so-far h = rw (drop-of-length-le bytes h) (no-bytes (map place (drop at row)) so-far)
-
--- the lower of two numbers, by the tests that the code makes
-pub lower-here : (here before : ℕ) → before ≡ 0 → here ≡ lower here before
-lower-here here before none = rw none (sym (lower-none here))
-
-pub lower-less : (here before : ℕ) → (here ≡ 0 → ⊥) → here < before → here ≡ lower here before
-lower-less zero before some less = absurd (some refl)
-lower-less (suc here) zero some less = refl
-lower-less (suc here) (suc before) some less = let same : here ≡ min here before = omega arith in ap suc same
-
-pub lower-more : (here before : ℕ) → (here ≡ 0 → ⊥) → (before ≡ 0 → ⊥) → before ≤ here → before ≡ lower here before
-lower-more zero before some some′ more = absurd (some refl)
-lower-more (suc here) zero some some′ more = absurd (some′ refl)
-lower-more (suc here) (suc before) some some′ more = let same : before ≡ min here before = omega arith in ap suc same

@@ -1,7 +1,7 @@
 -- Document 01, "The seven layouts" and "Refusal numbers" 3 to 5: the places of a row, and the bytes that fit them.
 use mathlib.Core.Bool.{Bool, true, cond, not, _&&_, _||_}
 use mathlib.Core.List.{List, [], _∷_, _++_, map}
-use Prim.Native.Nat.{ℕ, zero, suc, _+_, _-_, _%_, min}
+use Prim.Native.Nat.{ℕ, _+_, _-_, _%_}
 use lib.Dec.{leb, ltb, eqb}
 use lib.ListN.{length, take, drop, getD, set, replicate}
 use Rattle.refusals.specs.Refusals.{_when_, _else_}
@@ -13,14 +13,24 @@ pub data Place : Type 0 where
   decimal : ℕ → Place
   code : ℕ → Place
 
--- a place as one number: a character below 128 stands for itself, then come sixteen decimal slots, then codes
+-- the slots that a row's digits have
+abbrev pub slots : ℕ
+slots = 32
+
+-- a place as one number: a character below the first decimal stands for itself, then come the slots of decimals, then those of codes
+abbrev pub firstDecimal : ℕ
+firstDecimal = 128
+
+abbrev pub firstCode : ℕ
+firstCode = 160
+
 unfoldable pub place : ℕ → Place
-place n = cond (ltb n 128) (fixed n) (cond (ltb n 144) (decimal (n % 16)) (code (n % 16)))
+place n = cond (ltb n firstDecimal) (fixed n) (cond (ltb n firstCode) (decimal (n % slots)) (code (n % slots)))
 
 abbrev pub placeNumber : Place → ℕ
 placeNumber (fixed character) = character
-placeNumber (decimal slot) = 128 + slot
-placeNumber (code slot) = 144 + slot
+placeNumber (decimal slot) = firstDecimal + slot
+placeNumber (code slot) = firstCode + slot
 
 -- "0 to 9"
 unfoldable pub isDecimal : ℕ → Bool
@@ -87,15 +97,9 @@ rowFault row bytes = faultOf (every fixedHolds row bytes) (every decimalHolds ro
 abbrev pub placeFault : Place → ℕ → ℕ
 placeFault p byte = faultOf (fixedHolds p byte) (decimalHolds p byte) (codeHolds p byte)
 
--- the lower of two refusals, where 0 is none
-abbrev pub lower : ℕ → ℕ → ℕ
-lower zero before = before
-lower (suc here) zero = suc here
-lower (suc here) (suc before) = suc (min here before)
-
--- all of a row seen, from sixteen empty slots on
+-- all of a row seen, from empty slots on
 abbrev pub noDigits : List ℕ
-noDigits = replicate 16 0
+noDigits = replicate slots 0
 
 unfoldable pub foundIn : List Place → List ℕ → Found
 foundIn row bytes = record { digits = gather row bytes noDigits; fault = rowFault row bytes }

@@ -4,21 +4,25 @@ use refusals::DIGIT;
 use refusals::FIXED_CHARACTER;
 use refusals::NONE;
 use refusals::STATUS_OR_WEEKDAY;
+use refusals::lower;
 ghost use mathlib.Core.Path.{_≡_};
 ghost use mathlib.Core.List.{map};
 ghost use Prim.Native.Nat.{_%_};
-ghost use Rattle.places.specs.Places.{place, isDecimal, isCapital, codeValue, keptAt, placeFault, lower, foundIn, codeCharacter, byteAt, render, over};
+ghost use Rattle.places.specs.Places.{place, isDecimal, isCapital, codeValue, keptAt, placeFault, foundIn, codeCharacter, byteAt, render, over};
+
+// The slots that a row's digits have.
+pub const SLOTS: usize = 32;
 
 // A place is one number. Below this one it is the fixed character itself.
 pub const FIRST_DECIMAL: u8 = 128;
 
 // From FIRST_DECIMAL on come the slots of decimal digits, and from here on those of status and weekday.
-pub const FIRST_CODE: u8 = 144;
+pub const FIRST_CODE: u8 = 160;
 
 // What a row finds in some bytes.
 pub struct Found {
     // The digits, each in the slot that its place names.
-    pub digits: [u8; 16],
+    pub digits: [u8; SLOTS],
     // 3, 4 or 5, the lowest that some place gives, or 0.
     pub fault: u8,
 }
@@ -99,32 +103,16 @@ fn see(at: u8, byte: u8, before: u8) -> Seen
     }
 }
 
-// The lower of two refusals, where 0 is none.
-fn lower(here: u8, before: u8) -> u8
-    ensures { λ r. ⌜ r ≡ lower here before ⌝ }
-{
-    if here == NONE {
-        return before;
-    }
-    if before == NONE {
-        return here;
-    }
-    if here < before {
-        return here;
-    }
-    before
-}
-
 // What a row finds in some bytes, up to the end of the shorter one.
 pub fn scan(row: &[u8], bytes: &[u8]) -> Found
     ensures { λ r. ⌜ r ≡ foundIn (map place (now (row .entry))) (now (bytes .entry)) ⌝ }
 {
-    let mut digits = [0u8; 16];
+    let mut digits = [0u8; SLOTS];
     let mut fault = NONE;
     let mut at = 0;
     while at < row.len() && at < bytes.len() {
         let here = row[at];
-        let slot = (here % 16) as usize;
+        let slot = here as usize % SLOTS;
         let seen = see(here, bytes[at], digits[slot]);
         digits[slot] = seen.value;
         fault = lower(seen.fault, fault);
@@ -144,18 +132,18 @@ fn code_character(value: u8) -> u8
     low + 55
 }
 
-fn byte_at(digits: [u8; 16], at: u8) -> u8
+fn byte_at(digits: [u8; SLOTS], at: u8) -> u8
     ensures { λ r. ⌜ r ≡ byteAt digits (place at) ⌝ }
 {
     if at < FIRST_DECIMAL {
         return at;
     }
-    let slot = (at % 16) as usize;
+    let slot = at as usize % SLOTS;
     code_character(digits[slot])
 }
 
 // Lays the bytes of a row over the first bytes of `out`, as far as it reaches.
-pub fn render(row: &[u8], digits: [u8; 16], out: &mut [u8])
+pub fn render(row: &[u8], digits: [u8; SLOTS], out: &mut [u8])
     ensures { λ _. ⌜ now (out .exit) ≡ over (render (map place (now (row .entry))) digits) (now (out .entry)) ⌝ }
 {
     let mut at = 0;

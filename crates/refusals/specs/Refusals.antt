@@ -1,6 +1,6 @@
 -- Document 01, "Refusal numbers": how a number is found, and what an entry point may answer.
 use mathlib.Core.Bool.{Bool, cond}
-use Prim.Native.Nat.{ℕ, zero, suc}
+use Prim.Native.Nat.{ℕ, zero, suc, min}
 
 -- "given exactly when": the number where its condition holds, and no refusal, 0, where it does not
 infix 30 _when_
@@ -12,6 +12,12 @@ infixr 20 _else_
 abbrev pub _else_ : ℕ → ℕ → ℕ
 _else_ zero later = later
 _else_ (suc n) later = suc n
+
+-- the lower of two refusals, where 0 is none
+abbrev pub lower : ℕ → ℕ → ℕ
+lower zero before = before
+lower (suc here) zero = suc here
+lower (suc here) (suc before) = suc (min here before)
 
 -- an entry point does the work and hands out a value, or refuses with one number
 pub data Outcome (A : Type 0) : Type 0 where

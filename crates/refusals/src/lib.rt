@@ -1,4 +1,7 @@
 // The refusal numbers of document 01. Every crate hands out these numbers and no others.
+ghost use mathlib.Core.Path.{_≡_};
+ghost use Rattle.refusals.specs.Refusals.{lower};
+
 pub const NONE: u8 = 0;
 
 pub const LENGTH: u8 = 1;
@@ -32,3 +35,19 @@ pub const NO_DATE: u8 = 14;
 pub const STATE_ILL_FORMED: u8 = 15;
 
 pub const NOT_OFFERED: u8 = 16;
+
+// The lower of two refusals, where 0 is none.
+pub fn lower(here: u8, before: u8) -> u8
+    ensures { λ r. ⌜ r ≡ lower here before ⌝ }
+{
+    if here == NONE {
+        return before;
+    }
+    if before == NONE {
+        return here;
+    }
+    if here < before {
+        return here;
+    }
+    before
+}

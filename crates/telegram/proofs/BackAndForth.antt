@@ -9,14 +9,14 @@ use borrow.Author.Tests.{not-false}
 use Rattle.refusals.specs.Refusals.{_when_, _else_, Outcome, done, refused, unless, after}
 use Rattle.refusals.proofs.Laws.{was-done, does, when-none, else-none}
 use Rattle.places.specs.Places.{fixedHolds, decimalHolds, codeHolds, every, gather, rowFault, noDigits, render}
-use Rattle.places.proofs.RoundTrip.{fixed-rendered, decimals-rendered, codes-rendered, gather-outside, reads-back, makes-again, held-gather, held-none, no-digit}
+use Rattle.places.proofs.RoundTrip.{fixed-rendered, decimals-rendered, codes-rendered, reads-back, makes-again, held-gather}
 use Rattle.record.specs.declared.Record.{Record}
 use Rattle.record.specs.Rule.{refusalOf}
 use Rattle.layouts.specs.declared.Layout.{Layout}
 use Rattle.layouts.specs.Layouts.{placesOf, ownLayout, layoutOf}
 use Rattle.layouts.specs.Coding.{recordIn, digitsOut}
 use Rattle.layouts.proofs.RowLaws.{row-distinct, row-sound, row-length, row-fits, found-again}
-use Rattle.layouts.proofs.Carried.{own-layout, record-back, digits-held, digits-idle, digits-back}
+use Rattle.layouts.proofs.Carried.{own-layout, record-back, digits-held, digits-back}
 use Rattle.telegram.specs.Reading.{bodyOf, framed, carried, bodyRefusal, readOf}
 use Rattle.telegram.specs.Writing.{bodyBytes, telegramOf}
 use Rattle.telegram.proofs.WriteLaws.{length-body}
@@ -32,7 +32,7 @@ module _ (rec : Record) (none : refusalOf rec ≡ 0) where
   body-carries : carried (ownLayout rec) (bodyBytes rec) ≡ rec
   unfolding carried bodyBytes
   body-carries =
-      ap (recordIn (ownLayout rec)) (reads-back (placesOf (ownLayout rec)) (digitsOut rec) (digits-held rec none) (row-sound (ownLayout rec)) (digits-idle rec))
+      ap (recordIn (ownLayout rec)) (reads-back (placesOf (ownLayout rec)) (digitsOut rec) (digits-held rec none) (row-sound (ownLayout rec)))
       ∙ record-back rec none
 
   body-fits : (every fixedHolds (placesOf (ownLayout rec)) (bodyBytes rec) ≡ true)
@@ -40,7 +40,7 @@ module _ (rec : Record) (none : refusalOf rec ≡ 0) where
       × (every codeHolds (placesOf (ownLayout rec)) (bodyBytes rec) ≡ true)
   unfolding bodyBytes
   body-fits =
-      (fixed-rendered (placesOf (ownLayout rec)) (digitsOut rec), decimals-rendered (placesOf (ownLayout rec)) (digitsOut rec) (digits-held rec none) (row-sound (ownLayout rec)), codes-rendered (placesOf (ownLayout rec)) (digitsOut rec))
+      (fixed-rendered (placesOf (ownLayout rec)) (digitsOut rec), decimals-rendered (placesOf (ownLayout rec)) (digitsOut rec) (digits-held rec none .each), codes-rendered (placesOf (ownLayout rec)) (digitsOut rec))
 
   body-good : bodyRefusal (ownLayout rec) (bodyBytes rec) ≡ 0
   unfolding bodyRefusal
@@ -75,8 +75,7 @@ module _ (layout : Layout) (body : List ℕ) (same : length body ≡ length (pla
   unfolding carried
   digits-again =
       digits-back layout (gather (placesOf layout) body noDigits)
-      (held-gather (placesOf layout) body noDigits (row-sound layout) (tests .1) (tests .2) held-none)
-      (λ slot idle. gather-outside (placesOf layout) body noDigits slot idle (row-sound layout) refl ∙ no-digit 16 slot)
+      (held-gather (placesOf layout) body (row-distinct layout) (row-sound layout) same (tests .1) (tests .2))
 
   layout-again : ownLayout (carried layout body) ≡ layout
   unfolding carried

@@ -25,6 +25,7 @@ fn smaller(a: usize, b: usize) -> usize
 }
 
 impl Several {
+    // Nothing written yet.
     pub fn start() -> Several
         ensures { λ r. ⌜ r ≡ noneYet ⌝ }
     {

@@ -1,8 +1,8 @@
 // Writing one telegram into a lent buffer.
 use super::ETX;
 use super::STX;
-use layouts::Layout;
 use layouts::rows::Span;
+use layouts::rows::own_layout;
 use record::DatedLayout;
 use record::Record;
 use record::RecordAnswer;
@@ -31,15 +31,6 @@ pub enum Choice {
 pub enum WriteAnswer {
     Written(usize),
     Refused(u8),
-}
-
-fn own_layout(rec: Record) -> Layout
-    ensures { λ r. ⌜ r ≡ ownLayout rec ⌝ }
-{
-    match rec {
-        Record::Dated(layout, _, _, _, _) => Layout::Dated(layout),
-        Record::TimeOnly(layout, _) => Layout::TimeOnly(layout),
-    }
 }
 
 // The record as it is, if no rule refuses it.

@@ -9,9 +9,6 @@ use Rattle.places.proofs.byte_at.Tie as tie
 returns : tie.Need-returns
 returns c = sym (ap (byteAt (c .before .args .t1)) (is-fixed _ (c .if1 .taken)))
 
-cast-slot : tie.Need-cast-slot
-cast-slot c = search needs
-
 array-read-code-character : tie.Need-array-read-code-character
 array-read-code-character c = search needs
 
@@ -24,4 +21,4 @@ returns-2 c = by-digit _ (λ p. c .code-character .result ≡ byteAt (c .before 
 pub byte-at-spec : {M : Type 1} → statement M
 byte-at-spec =
     tie.close
-    (tie.spec returns cast-slot array-read-code-character code-character-requires returns-2)
+    (tie.spec returns array-read-code-character code-character-requires returns-2)

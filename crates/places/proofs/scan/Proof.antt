@@ -6,7 +6,8 @@ use mathlib.Core.List.{map}
 use Prim.Native.Nat.{_-_, _%_}
 use lib.ListN.{length, drop, getD, set}
 use borrow.Author.Tests.{ltb-true, ltb-false}
-use Rattle.places.specs.Places.{place, lower, foundIn}
+use Rattle.refusals.specs.Refusals.{lower}
+use Rattle.places.specs.Places.{slots, place, foundIn}
 use Rattle.places.specs.declared.Found.{Found}
 use Rattle.places.proofs.Scanning.{onward, onward-all, onward-step, onward-row-ends, onward-bytes-end}
 use Rattle.places.proofs.scan.Statement.{statement}
@@ -26,7 +27,7 @@ shared-slice-read-here : tie.Need-shared-slice-read-here Inv-loop μ-loop
 shared-slice-read-here c = omega arith
 
 cast-slot : tie.Need-cast-slot Inv-loop μ-loop
-cast-slot c = omega arith
+cast-slot c = omega (arith, c .shared-slice-known3 .given (c .before .before .before .loop .at))
 
 shared-slice-read-see : tie.Need-shared-slice-read-see Inv-loop μ-loop
 shared-slice-read-see c = ltb-true _ _ (c .before .before .if1 .taken)
@@ -55,7 +56,7 @@ loop-again c =
     let row = c .before .before .before .before .before .before .before .before .before .args .row .now in
     let so-far : Found = record { digits = l .digits; fault = l .fault } in
     onward-step row (c .before .before .before .before .before .before .before .before .before .args .bytes .now) (l .at) so-far _ (c .before .before .before .before .before .loop-test .taken) (ltb-true _ _ (c .before .before .before .before .if1 .taken))
-    (ap (set (l .digits) (getD row (l .at) 0 % 16)) (c .before .see .ensures .0))
+    (ap (set (l .digits) (getD row (l .at) 0 % slots)) (c .before .see .ensures .0))
     (c .lower .ensures ∙ ap (λ f. lower f (l .fault)) (c .before .see .ensures .1))
     ∙ l .inv
 

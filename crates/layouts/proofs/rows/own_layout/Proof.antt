@@ -1,9 +1,9 @@
--- `telegram::write::own_layout` meets its contract.
+-- `layouts::rows::own_layout` meets its contract.
 use mathlib.Core.Path.{sym, ap}
 use Rattle.layouts.specs.Layouts.{ownLayout}
 use borrow.Author.Needs.{needs}
-use Rattle.telegram.proofs.write.own_layout.Statement.{statement}
-use Rattle.telegram.proofs.write.own_layout.Tie as tie
+use Rattle.layouts.proofs.rows.own_layout.Statement.{statement}
+use Rattle.layouts.proofs.rows.own_layout.Tie as tie
 
 enum-known-rec : tie.Need-enum-known-rec
 enum-known-rec c = search needs

@@ -1,8 +1,8 @@
--- `places::lower` meets its contract.
-use Rattle.places.proofs.Scanning.{lower-here, lower-less, lower-more}
+-- `refusals::lower` meets its contract.
+use Rattle.refusals.proofs.Laws.{lower-here, lower-less, lower-more}
 use borrow.Author.Needs.{needs}
-use Rattle.places.proofs.lower.Statement.{statement}
-use Rattle.places.proofs.lower.Tie as tie
+use Rattle.refusals.proofs.lower.Statement.{statement}
+use Rattle.refusals.proofs.lower.Tie as tie
 
 returns : tie.Need-returns
 returns c = search needs
