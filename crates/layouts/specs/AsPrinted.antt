@@ -41,28 +41,34 @@ quiet = false
 abbrev pub announced : Bool
 announced = true
 
+abbrev pub localTime : Bool
+localTime = false
+
+abbrev pub utcTime : Bool
+utcTime = true
+
 abbrev pub status : Reception → Bool → Bool → Bool → Status
 status reception season changeover utc = record { reception = reception; daylight = season; utc = utc; announced = changeover }
 
 -- 6021 and 2000: the weekday's character says whether it is UTC; in 5500 and 5050 the status does
-abbrev pub either : Reception → Bool → Bool → Bool → Outcome Status
-either reception season changeover utc = done (status reception season changeover utc)
+abbrev pub utcByWeekday : Reception → Bool → Bool → Bool → Outcome Status
+utcByWeekday reception season changeover utc = done (status reception season changeover utc)
 
 abbrev pub local : Reception → Bool → Bool → Bool → Outcome Status
-local reception season changeover byWeekday = done (status reception season changeover false)
+local reception season changeover byWeekday = done (status reception season changeover localTime)
 
 abbrev pub inUtc : Reception → Bool → Outcome Status
-inUtc reception byWeekday = done (status reception standard quiet true)
+inUtc reception byWeekday = done (status reception standard quiet utcTime)
 
 abbrev pub noStatus : Bool → Outcome Status
 noStatus byWeekday = refused 5
 
 -- a weekday, and whether its character says UTC
 abbrev pub day : ℕ → Outcome (ℕ × Bool)
-day n = done (n, false)
+day n = done (n, localTime)
 
 abbrev pub utcDay : ℕ → Outcome (ℕ × Bool)
-utcDay n = done (n, true)
+utcDay n = done (n, utcTime)
 
 abbrev pub noDay : Outcome (ℕ × Bool)
 noDay = refused 5
@@ -71,22 +77,22 @@ noDay = refused 5
 -- 11 radio high accuracy. All sixteen are legal".
 abbrev pub statusOf6021 : List (ℕ × (Bool → Outcome Status))
 statusOf6021 =
-    "0" means either Invalid standard quiet
-    ∷ "1" means either Invalid standard announced
-    ∷ "2" means either Invalid daylight quiet
-    ∷ "3" means either Invalid daylight announced
-    ∷ "4" means either Crystal standard quiet
-    ∷ "5" means either Crystal standard announced
-    ∷ "6" means either Crystal daylight quiet
-    ∷ "7" means either Crystal daylight announced
-    ∷ "8" means either Radio standard quiet
-    ∷ "9" means either Radio standard announced
-    ∷ "A" means either Radio daylight quiet
-    ∷ "B" means either Radio daylight announced
-    ∷ "C" means either High standard quiet
-    ∷ "D" means either High standard announced
-    ∷ "E" means either High daylight quiet
-    ∷ "F" means either High daylight announced
+    "0" means utcByWeekday Invalid standard quiet
+    ∷ "1" means utcByWeekday Invalid standard announced
+    ∷ "2" means utcByWeekday Invalid daylight quiet
+    ∷ "3" means utcByWeekday Invalid daylight announced
+    ∷ "4" means utcByWeekday Crystal standard quiet
+    ∷ "5" means utcByWeekday Crystal standard announced
+    ∷ "6" means utcByWeekday Crystal daylight quiet
+    ∷ "7" means utcByWeekday Crystal daylight announced
+    ∷ "8" means utcByWeekday Radio standard quiet
+    ∷ "9" means utcByWeekday Radio standard announced
+    ∷ "A" means utcByWeekday Radio daylight quiet
+    ∷ "B" means utcByWeekday Radio daylight announced
+    ∷ "C" means utcByWeekday High standard quiet
+    ∷ "D" means utcByWeekday High standard announced
+    ∷ "E" means utcByWeekday High daylight quiet
+    ∷ "F" means utcByWeekday High daylight announced
     ∷ []
 
 -- Weekday of 6021 and 2000: "b3 set means UTC; the low three bits are 1 Monday to 7 Sunday. A low part of 0 is not legal".
@@ -168,18 +174,18 @@ time hour minute second = record { hour = hour; minute = minute; second = second
 
 abbrev pub telegrams : List (List ℕ × Record)
 telegrams =
-    (ascii "DB205841170496" ++ lfCr, Dated L6021 (status High standard announced true) 3 (date 1996 4 17) (time 20 58 41))
+    (ascii "DB205841170496" ++ lfCr, Dated L6021 (status High standard announced utcTime) 3 (date 1996 4 17) (time 20 58 41))
     ∷ (ascii "102947" ++ lfCr, TimeOnly T6021 (time 10 29 47))
-    ∷ (ascii "A413520925061987" ++ lfCr, Dated L2000 (status Radio daylight quiet false) 4 (date 1987 6 25) (time 13 52 9))
-    ∷ (ascii "5 221746 260893 4" ++ crLf, Dated L5500 (status Crystal daylight quiet false) 4 (date 1993 8 26) (time 22 17 46))
+    ∷ (ascii "A413520925061987" ++ lfCr, Dated L2000 (status Radio daylight quiet localTime) 4 (date 1987 6 25) (time 13 52 9))
+    ∷ (ascii "5 211746 260893 4" ++ crLf, Dated L5500 (status Crystal daylight quiet localTime) 4 (date 1993 8 26) (time 21 17 46))
     ∷ (ascii "231458" ++ crLf, TimeOnly T5500 (time 23 14 58))
-    ∷ (ascii "18 49 06 30 11 48 31 " ++ crLf, Dated L5050 (status Crystal standard announced false) 1 (date 2048 11 30) (time 18 49 6))
+    ∷ (ascii "18 49 06 27 12 38 31 " ++ crLf, Dated L5050 (status Crystal standard announced localTime) 1 (date 2038 12 27) (time 18 49 6))
     ∷ (ascii "07 36 51 " ++ crLf, TimeOnly T5050 (time 7 36 51))
     -- "a two-digit year 80 to 99 is 1980 to 1999, and 00 to 79 is 2000 to 2079"
-    ∷ (ascii "82000000010180" ++ lfCr, Dated L6021 (status Radio standard quiet false) 2 (date 1980 1 1) (time 0 0 0))
-    ∷ (ascii "85235959311299" ++ lfCr, Dated L6021 (status Radio standard quiet false) 5 (date 1999 12 31) (time 23 59 59))
-    ∷ (ascii "86000000010100" ++ lfCr, Dated L6021 (status Radio standard quiet false) 6 (date 2000 1 1) (time 0 0 0))
-    ∷ (ascii "87235959311279" ++ lfCr, Dated L6021 (status Radio standard quiet false) 7 (date 2079 12 31) (time 23 59 59))
+    ∷ (ascii "82000000010180" ++ lfCr, Dated L6021 (status Radio standard quiet localTime) 2 (date 1980 1 1) (time 0 0 0))
+    ∷ (ascii "85235959311299" ++ lfCr, Dated L6021 (status Radio standard quiet localTime) 5 (date 1999 12 31) (time 23 59 59))
+    ∷ (ascii "86000000010100" ++ lfCr, Dated L6021 (status Radio standard quiet localTime) 6 (date 2000 1 1) (time 0 0 0))
+    ∷ (ascii "87235959311279" ++ lfCr, Dated L6021 (status Radio standard quiet localTime) 7 (date 2079 12 31) (time 23 59 59))
     ∷ []
 
 -- What the definitions make of two characters, and of a telegram.

@@ -61,16 +61,16 @@ pub enum LayoutAnswer {
     Refused(u8),
 }
 
-// The table of document 01, in its order: 6021, 6021t, 2000, 5500, 5500t, 5050, 5050t.
+// The table of document 01, a layout a line, in its order.
 #[rattlefmt::skip]
 const ROWS: [u8; 103] = [
-    ST, WD, H1, H0, M1, M0, S1, S0, D1, D0, MO1, MO0, Y1, Y0, LF, CR,
-    H1, H0, M1, M0, S1, S0, LF, CR,
-    ST, WD, H1, H0, M1, M0, S1, S0, D1, D0, MO1, MO0, Y3, Y2, Y1, Y0, LF, CR,
-    ST, SP, H1, H0, M1, M0, S1, S0, SP, D1, D0, MO1, MO0, Y1, Y0, SP, WD, CR, LF,
-    H1, H0, M1, M0, S1, S0, CR, LF,
-    H1, H0, SP, M1, M0, SP, S1, S0, SP, D1, D0, SP, MO1, MO0, SP, Y1, Y0, SP, ST, WD, SP, CR, LF,
-    H1, H0, SP, M1, M0, SP, S1, S0, SP, CR, LF,
+    ST, WD, H1, H0, M1, M0, S1, S0, D1, D0, MO1, MO0, Y1, Y0, LF, CR, // 6021
+    H1, H0, M1, M0, S1, S0, LF, CR, // 6021t
+    ST, WD, H1, H0, M1, M0, S1, S0, D1, D0, MO1, MO0, Y3, Y2, Y1, Y0, LF, CR, // 2000
+    ST, SP, H1, H0, M1, M0, S1, S0, SP, D1, D0, MO1, MO0, Y1, Y0, SP, WD, CR, LF, // 5500
+    H1, H0, M1, M0, S1, S0, CR, LF, // 5500t
+    H1, H0, SP, M1, M0, SP, S1, S0, SP, D1, D0, SP, MO1, MO0, SP, Y1, Y0, SP, ST, WD, SP, CR, LF, // 5050
+    H1, H0, SP, M1, M0, SP, S1, S0, SP, CR, LF, // 5050t
 ];
 
 // The rows of the seven layouts, one behind another.

@@ -22,7 +22,7 @@ abbrev pub firstDecimal : ℕ
 firstDecimal = 128
 
 abbrev pub firstCode : ℕ
-firstCode = 160
+firstCode = firstDecimal + slots
 
 unfoldable pub place : ℕ → Place
 place n = cond (ltb n firstDecimal) (fixed n) (cond (ltb n firstCode) (decimal (n % slots)) (code (n % slots)))

@@ -17,7 +17,7 @@ pub const SLOTS: usize = 32;
 pub const FIRST_DECIMAL: u8 = 128;
 
 // From FIRST_DECIMAL on come the slots of decimal digits, and from here on those of status and weekday.
-pub const FIRST_CODE: u8 = 160;
+pub const FIRST_CODE: u8 = FIRST_DECIMAL + SLOTS as u8;
 
 // What a row finds in some bytes.
 pub struct Found {

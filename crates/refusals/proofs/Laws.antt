@@ -1,7 +1,7 @@
 -- Laws of refusals and of the tests behind them. Assumes nothing.
 use mathlib.Core.Path.{_≡_, refl, ap, sym, _∙_}
 use mathlib.Core.Bool.{Bool, true, false, not, _&&_}
-use Prim.Native.Nat.{ℕ, zero, suc, _≤_, _<_, min}
+use Prim.Native.Nat.{ℕ, zero, suc, _≤_, _<_}
 use native.Mathlib.Omega.{arith}
 use Rattle.refusals.specs.Refusals.{_when_, _else_, lower, Outcome, done, refused, unless}
 
@@ -26,8 +26,8 @@ lower-none (suc a) = refl
 pub lower-assoc : (a b c : ℕ) → lower (lower a b) c ≡ lower b (lower a c)
 lower-assoc zero b c = refl
 lower-assoc (suc a) zero c = refl
-lower-assoc (suc a) (suc b) zero = let same : min a b ≡ min b a = omega arith in ap suc same
-lower-assoc (suc a) (suc b) (suc c) = let same : min (min a b) c ≡ min b (min a c) = omega arith in ap suc same
+lower-assoc (suc a) (suc b) zero = omega arith
+lower-assoc (suc a) (suc b) (suc c) = omega arith
 
 -- the lower of two numbers, by the tests that the code makes
 pub lower-here : (here before : ℕ) → before ≡ 0 → here ≡ lower here before
@@ -36,12 +36,12 @@ lower-here here before none = rw none (sym (lower-none here))
 pub lower-less : (here before : ℕ) → (here ≡ 0 → ⊥) → here < before → here ≡ lower here before
 lower-less zero before some less = absurd (some refl)
 lower-less (suc here) zero some less = refl
-lower-less (suc here) (suc before) some less = let same : here ≡ min here before = omega arith in ap suc same
+lower-less (suc here) (suc before) some less = omega arith
 
 pub lower-more : (here before : ℕ) → (here ≡ 0 → ⊥) → (before ≡ 0 → ⊥) → before ≤ here → before ≡ lower here before
 lower-more zero before some some′ more = absurd (some refl)
 lower-more (suc here) zero some some′ more = absurd (some′ refl)
-lower-more (suc here) (suc before) some some′ more = let same : before ≡ min here before = omega arith in ap suc same
+lower-more (suc here) (suc before) some some′ more = omega arith
 
 -- What a refusal found by its rule makes of an outcome.
 module _ {A : Type 0} (value : A) where
