@@ -11,7 +11,7 @@ from records import UtcSeconds, is_time_only
 RECEPTIONS = ["invalid", "crystal", "radio", "high"]
 LAYOUT_NUMBERS = ["6021", "2000", "5500", "5050", "6021t", "5500t", "5050t"]
 PARITY_NUMBERS = ["none", "even", "odd"]
-FIRST_PLACE = {FIXED: 0, DECIMAL: 128, CODE: 144}
+FIRST_PLACE = {FIXED: 0, DECIMAL: 128, CODE: 160}
 
 
 # --- what goes in ---

@@ -11,7 +11,7 @@ from layouts import LAYOUTS, STATUS, WEEKDAY, Decimal, is_decimal, is_fixed
 from refusals import DECIMAL_PLACE, FIXED_PLACE, STATUS_OR_WEEKDAY, check
 from status import character_of, nibble_of
 
-SLOTS = 16
+SLOTS = 32
 FIXED, DECIMAL, CODE = "fixed", "decimal", "code"
 
 

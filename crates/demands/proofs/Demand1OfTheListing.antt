@@ -92,10 +92,10 @@ demand-1-no-byte-of-a-row start told buffer n = go (eventRow start told)
 -- the row of what was heard
 pub demand-1-row-for : ARowForRefuses
 demand-1-row-for heard buffer = (
-    (λ is. ap (λ p. p .0) (nothing-laid buffer is)),
-    (λ told start size is. ap (λ h. laid (rowFor h) buffer .0) is),
-    (λ n is. ap (λ p. p .0) (refused-laid buffer is)),
-  )
+  (λ is. ap (λ p. p .0) (nothing-laid buffer is)),
+  (λ told start size is. ap (λ h. laid (rowFor h) buffer .0) is),
+  (λ n is. ap (λ p. p .0) (refused-laid buffer is)),
+)
 
 -- a piece
 pub demand-1-listing : ListingRefuses

@@ -1,8 +1,9 @@
 // Cases of rows of places, of the layouts, and of what their digits mean. A row is handed in as the number of its places and its
-// places, and digits are sixteen bytes.
+// places, and digits are a byte for each slot.
 use super::inputs;
 use super::outputs;
 use layouts::rows::LayoutAnswer;
+use places::SLOTS;
 use refusals::NONE;
 
 // A row and the bytes that it is laid on. The digits are printed where none is refused.
@@ -18,7 +19,7 @@ pub(crate) fn scans(bytes: &[u8]) {
 }
 
 // Lays a row over the first bytes of a buffer.
-fn render_in(out: &mut [u8], room: usize, row: &[u8], digits: [u8; 16]) {
+fn render_in(out: &mut [u8], room: usize, row: &[u8], digits: [u8; SLOTS]) {
     if out.len() < room {
         return;
     }
@@ -30,7 +31,7 @@ pub(crate) fn renders(bytes: &[u8]) {
     let count = inputs::wide(inputs::byte(bytes, 0));
     let rest = inputs::behind(bytes, 1);
     let others = inputs::behind(rest, count);
-    let room = inputs::wide(inputs::byte(others, 16));
+    let room = inputs::wide(inputs::byte(others, SLOTS));
     let mut out = [inputs::UNTOUCHED; 32];
     render_in(
         &mut out,

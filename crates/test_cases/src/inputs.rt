@@ -2,7 +2,9 @@
 use calendar::date::Date;
 use calendar::time::Time;
 use layouts::Layout;
+use line::PLACES;
 use line::Reader;
+use places::SLOTS;
 use record::DatedLayout;
 use record::Reception;
 use record::Record;
@@ -148,34 +150,37 @@ pub(crate) fn choice(number: u8) -> Choice {
     })
 }
 
-fn held(bytes: &[u8]) -> [u8; 24] {
-    let mut held = [0u8; 24];
+fn held(bytes: &[u8]) -> [u8; PLACES] {
+    let mut held = [0u8; PLACES];
     let mut at: usize = 0;
-    while at < 24 {
+    while at < PLACES {
         held[at] = byte(bytes, at);
         at += 1;
     }
     held
 }
 
-// Sixteen bytes.
-#[rattlefmt::skip]
-pub(crate) fn digits(bytes: &[u8]) -> [u8; 16] {
-    let all = held(bytes);
-    [all[0], all[1], all[2], all[3], all[4], all[5], all[6], all[7], all[8], all[9], all[10], all[11], all[12], all[13], all[14], all[15]]
+pub(crate) fn digits(bytes: &[u8]) -> [u8; SLOTS] {
+    let mut digits = [0u8; SLOTS];
+    let mut at: usize = 0;
+    while at < SLOTS {
+        digits[at] = byte(bytes, at);
+        at += 1;
+    }
+    digits
 }
 
 pub(crate) fn wide(n: u8) -> usize {
     n as usize
 }
 
-// 37 bytes: the places, how many are held, fed, stray, start.
+// The places, how many are held, fed, stray, start.
 pub(crate) fn reader(bytes: &[u8]) -> Reader {
     Reader {
         held: held(bytes),
-        len: wide(byte(bytes, 24)),
-        fed: number_32(behind(bytes, 25)),
-        stray: number_32(behind(bytes, 29)),
-        start: number_32(behind(bytes, 33)),
+        len: wide(byte(bytes, PLACES)),
+        fed: number_32(behind(bytes, PLACES + 1)),
+        stray: number_32(behind(bytes, PLACES + 5)),
+        start: number_32(behind(bytes, PLACES + 9)),
     }
 }

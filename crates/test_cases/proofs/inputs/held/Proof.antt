@@ -4,14 +4,15 @@ use borrow.Author.Needs.{needs}
 use mathlib.Core.Path.{_≡_, refl, _∙_}
 use Prim.Native.Nat.{_-_}
 use lib.ListN.{length, length-set}
+use Rattle.line.specs.Line.{places}
 use Rattle.test_cases.proofs.inputs.held.Statement.{statement}
 use Rattle.test_cases.proofs.inputs.held.Tie as tie
 
 abbrev Inv-loop : tie.InvT-loop
-Inv-loop bytes held₀ at₀ held at = length held ≡ 24
+Inv-loop bytes held₀ at₀ held at = length held ≡ places
 
 abbrev μ-loop : tie.MeasureT-loop
-μ-loop bytes held₀ at₀ held at = 24 - at
+μ-loop bytes held₀ at₀ held at = places - at
 
 loop-holds : tie.Need-loop-holds Inv-loop μ-loop
 loop-holds c = refl
