@@ -17,7 +17,7 @@ use Rattle.record.specs.Answers.{recordAnswer}
 use Rattle.ascii.specs.Control.{stx, etx}
 use Rattle.line.specs.declared.Reader.{Reader}
 use Rattle.line.specs.declared.Heard.the-variants.{Nothing, Event}
-use Rattle.line.specs.Line.{places, longest, judgement, lineWith, readerWith, isPlain, event, Feeding, feedOf, startOf, readerOf, lineOf, wellFormed, answerFor, fedFor, feedReader}
+use Rattle.line.specs.Line.{places, longest, judgement, Line, lineWith, readerWith, isPlain, event, Feeding, feedOf, startOf, readerOf, lineOf, wellFormed, answerFor, fedFor, feedReader}
 use Rattle.line.specs.Runs.{roomyRun}
 use Rattle.line.proofs.Forms.{taken-length, start-stays, padding}
 use Rattle.line.proofs.RunLaws.{Within, run-within, run-ends}
@@ -25,23 +25,23 @@ use Rattle.line.proofs.ReaderLaws.{Well, well}
 use Rattle.line.proofs.FeedLaws.{later, feed-run}
 
 -- a feeding that ended with the byte it was given
-abbrev pub stopped : List ℕ → ℕ → ℕ → List ℕ → Outcome Record → ℕ → Feeding
-stopped held fed stray next outcome size =
-    record { line = lineWith next (fed + 1) stray; taken = 1; told = event outcome size; at = startOf (lineWith held fed stray) }
+abbrev pub stopped : Line → List ℕ → Outcome Record → ℕ → Feeding
+stopped line next outcome size =
+    record { line = lineWith next (line .fed + 1) (line .stray); taken = 1; told = event outcome size; at = startOf line }
 
 module _ (fed stray : ℕ) (rest : List ℕ) where
   pub at-etx : (held : List ℕ) → 0 < length held
-      → feedOf (lineWith held fed stray) (etx ∷ rest) ≡ stopped held fed stray [] (judgement held) (length held + 1)
+      → feedOf (lineWith held fed stray) (etx ∷ rest) ≡ stopped (lineWith held fed stray) [] (judgement held) (length held + 1)
   at-etx [] some = absurd (omega arith)
-  at-etx (first ∷ held) some = λ i. stopped (first ∷ held) fed (add-zero stray i) [] (judgement (first ∷ held)) (length (first ∷ held) + 1)
+  at-etx (first ∷ held) some = rw (add-zero stray)
 
   pub at-stx : (held : List ℕ) → 0 < length held
-      → feedOf (lineWith held fed stray) (stx ∷ rest) ≡ stopped held fed stray (stx ∷ []) (refused 9) (length held)
+      → feedOf (lineWith held fed stray) (stx ∷ rest) ≡ stopped (lineWith held fed stray) (stx ∷ []) (refused 9) (length held)
   at-stx [] some = absurd (omega arith)
-  at-stx (first ∷ held) some = λ i. stopped (first ∷ held) fed (add-zero stray i) (stx ∷ []) (refused 9) (length (first ∷ held))
+  at-stx (first ∷ held) some = rw (add-zero stray)
 
   pub at-full : (byte : ℕ) (held : List ℕ) → 0 < length held → (byte ≡ etx → ⊥) → (byte ≡ stx → ⊥) → places ≤ length held
-      → feedOf (lineWith held fed stray) (byte ∷ rest) ≡ stopped held fed stray [] (refused 10) longest
+      → feedOf (lineWith held fed stray) (byte ∷ rest) ≡ stopped (lineWith held fed stray) [] (refused 10) longest
   at-full byte [] some no-etx no-stx full = absurd (omega arith)
   at-full byte (first ∷ held) some no-etx no-stx full =
       simp (ne-eqb byte etx no-etx, ne-eqb byte stx no-stx, le-leb places (length (first ∷ held)) full, add-zero)
@@ -61,6 +61,9 @@ module _ (reader : Reader) (piece : List ℕ) (size : length (reader .held) ≡ 
   abbrev pub gathered : List ℕ
   gathered = take (reader .len) (reader .held) ++ take added piece
 
+  abbrev pub grown : Line
+  grown = lineWith gathered (reader .fed + added) (reader .stray)
+
   kept : Well reader
   kept = well reader good
 
@@ -73,19 +76,19 @@ module _ (reader : Reader) (piece : List ℕ) (size : length (reader .held) ≡ 
   pub gathered-size : length gathered ≡ reader .len + added
   gathered-size = length-append (take (reader .len) (reader .held)) (take added piece) ∙ ap₂ _+_ held-size (length-take-le added piece (added-fits .1))
 
-  pub run : feedOf (lineOf reader) piece ≡ later added (feedOf (lineWith gathered (reader .fed + added) (reader .stray)) (drop added piece))
+  pub run : feedOf (lineOf reader) piece ≡ later added (feedOf grown (drop added piece))
   run =
       feed-run (take (reader .len) (reader .held)) (reader .fed) (reader .stray) piece added (omega (arith, held-size)) (omega (arith, held-size, kept .fits))
       (ap (λ len. roomyRun len piece) held-size)
 
-  pub starts : startOf (lineWith gathered (reader .fed + added) (reader .stray)) ≡ reader .start
+  pub starts : startOf grown ≡ reader .start
   starts =
       ap (λ len. (reader .fed + added + (2 ^ 32 - len)) % 2 ^ 32) gathered-size
       ∙ start-stays (reader .fed) (reader .len) added (omega (arith, added-fits .0, kept .fits))
       ∙ ap (λ len. (reader .fed + (2 ^ 32 - len)) % 2 ^ 32) (sym held-size)
       ∙ sym (kept .start)
 
-  fed-by-run : feedReader reader piece ≡ fedFor (later added (feedOf (lineWith gathered (reader .fed + added) (reader .stray)) (drop added piece)))
+  fed-by-run : feedReader reader piece ≡ fedFor (later added (feedOf grown (drop added piece)))
   unfolding feedReader
   fed-by-run = rw good (ap fedFor run)
 
@@ -105,7 +108,7 @@ module _ (reader : Reader) (piece : List ℕ) (size : length (reader .held) ≡ 
       ∙ ap (λ rest. gathered ++ rest) (sym (padding (reader .held) (reader .len) added size (kept .padded))) in
       let stray : reader .stray % 2 ^ 32 ≡ reader .stray = omega arith in
       fed-by-run
-      ∙ (λ i. fedFor (later added (feedOf (lineWith gathered (reader .fed + added) (reader .stray)) (over i))))
+      ∙ (λ i. fedFor (later added (feedOf grown (over i))))
       ∙ (λ i. record {
         reader = readerWith (padded i) (gathered-size i) ((reader .fed + added) % 2 ^ 32) (stray i) (starts i);
         taken = zero-add added i;
@@ -114,7 +117,7 @@ module _ (reader : Reader) (piece : List ℕ) (size : length (reader .held) ≡ 
 
   -- a byte that tells
   pub inside-stops : (next : List ℕ) (outcome : Outcome Record) (count : ℕ) → length next ≤ places
-      → feedOf (lineWith gathered (reader .fed + added) (reader .stray)) (drop added piece) ≡ stopped gathered (reader .fed + added) (reader .stray) next outcome count
+      → feedOf grown (drop added piece) ≡ stopped grown next outcome count
       → feedReader reader piece
       ≡ record { reader = readerOf (lineWith next ((reader .fed + (added + 1)) % 2 ^ 32) (reader .stray)); taken = added + 1; heard = Event (answerFor outcome) (reader .start) count }
   inside-stops next outcome count fits e =
@@ -126,7 +129,7 @@ module _ (reader : Reader) (piece : List ℕ) (size : length (reader .held) ≡ 
       ∙ (λ i. record { reader = reads i; taken = one i; heard = Event (answerFor outcome) (starts i) count })
 
   pub stops-with : (next : List ℕ) (outcome : Outcome Record) (count : ℕ) → length next ≤ places
-      → feedOf (lineWith gathered (reader .fed + added) (reader .stray)) (drop added piece) ≡ stopped gathered (reader .fed + added) (reader .stray) next outcome count
+      → feedOf grown (drop added piece) ≡ stopped grown next outcome count
       → (after : Reader) (fed n size : ℕ) (answer : RecordAnswer)
       → after ≡ readerOf (lineWith next fed (reader .stray)) → fed ≡ (reader .fed + (n + 1)) % 2 ^ 32 → n ≡ added → answer ≡ answerFor outcome → size ≡ count
       → record { reader = after; taken = n + 1; heard = Event answer (reader .start) size } ≡ feedReader reader piece
@@ -147,17 +150,17 @@ module _ (reader : Reader) (piece : List ℕ) (size : length (reader .held) ≡ 
   gathered-some = omega (arith, gathered-size)
 
   pub told-etx : added < length piece → getD piece added 0 ≡ etx
-      → feedOf (lineWith gathered (reader .fed + added) (reader .stray)) (drop added piece)
-      ≡ stopped gathered (reader .fed + added) (reader .stray) [] (judgement gathered) (length gathered + 1)
+      → feedOf grown (drop added piece)
+      ≡ stopped grown [] (judgement gathered) (length gathered + 1)
   told-etx more e =
-      ap (feedOf (lineWith gathered (reader .fed + added) (reader .stray))) (behind etx more e)
+      ap (feedOf grown) (behind etx more e)
       ∙ at-etx (reader .fed + added) (reader .stray) (drop (suc added) piece) gathered gathered-some
 
   pub told-stx : added < length piece → getD piece added 0 ≡ stx
-      → feedOf (lineWith gathered (reader .fed + added) (reader .stray)) (drop added piece)
-      ≡ stopped gathered (reader .fed + added) (reader .stray) (stx ∷ []) (refused 9) (length gathered)
+      → feedOf grown (drop added piece)
+      ≡ stopped grown (stx ∷ []) (refused 9) (length gathered)
   told-stx more e =
-      ap (feedOf (lineWith gathered (reader .fed + added) (reader .stray))) (behind stx more e)
+      ap (feedOf grown) (behind stx more e)
       ∙ at-stx (reader .fed + added) (reader .stray) (drop (suc added) piece) gathered gathered-some
 
   -- a plain byte behind the run: there is no room for it
@@ -172,10 +175,10 @@ module _ (reader : Reader) (piece : List ℕ) (size : length (reader .held) ≡ 
   filled = filled-by (ltb added (places - reader .len)) refl
 
   pub told-full : added < length piece → (getD piece added 0 ≡ etx → ⊥) → (getD piece added 0 ≡ stx → ⊥)
-      → feedOf (lineWith gathered (reader .fed + added) (reader .stray)) (drop added piece)
-      ≡ stopped gathered (reader .fed + added) (reader .stray) [] (refused 10) longest
+      → feedOf grown (drop added piece)
+      ≡ stopped grown [] (refused 10) longest
   told-full more no-etx no-stx =
-      ap (feedOf (lineWith gathered (reader .fed + added) (reader .stray))) (behind (getD piece added 0) more refl)
+      ap (feedOf grown) (behind (getD piece added 0) more refl)
       ∙ at-full (reader .fed + added) (reader .stray) (drop (suc added) piece) (getD piece added 0) gathered gathered-some no-etx no-stx
       (filled more (plain (getD piece added 0) no-etx no-stx))
 
