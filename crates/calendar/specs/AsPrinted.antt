@@ -7,6 +7,7 @@ use lib.ListN.{length, take, drop}
 use Rattle.refusals.specs.Refusals.{Outcome, done, refused, after}
 use Rattle.calendar.specs.declared.date.Date.{Date}
 use Rattle.calendar.specs.declared.time.Time.{Time}
+use Rattle.calendar.specs.Literals.{date, time}
 use Rattle.calendar.specs.Calendar.{daysInMonth, monthStarts, dayNumber, dateOf, weekdayOf, nextDay}
 use Rattle.calendar.specs.TimeOfDay.{secondOfDay, nextSecond}
 
@@ -16,15 +17,8 @@ TheMonthStartsAreAsPrinted =
     (length monthStarts ≡ 1200) × (take 3 monthStarts ≡ 0 ∷ 31 ∷ 60 ∷ []) × (drop 1199 monthStarts ≡ 36494 ∷ [])
 
 -- a table holds: what stands on the left of each row gives what stands on its right
-abbrev pub Holds : {A B : Type 0} → (A → B) → List (A × B) → Type 0
-Holds answer rows = map (λ row. answer (row .0)) rows ≡ map (λ row. row .1) rows
-
--- the words of the tables
-abbrev pub date : ℕ → ℕ → ℕ → Date
-date year month day = record { year = year; month = month; day = day }
-
-abbrev pub time : ℕ → ℕ → ℕ → Time
-time hour minute second = record { hour = hour; minute = minute; second = second }
+abbrev pub GivesTheTable : {A B : Type 0} → (A → B) → List (A × B) → Type 0
+GivesTheTable answer rows = map (λ row. answer (row .0)) rows ≡ map (λ row. row .1) rows
 
 -- "Gregorian": the lengths of a year's months, in a leap year and in another
 abbrev pub monthLengths : List (ℕ × List (Outcome ℕ))
@@ -107,11 +101,11 @@ secondsAfter =
 
 abbrev pub TheCalendarIsAsPrinted : Type 0
 TheCalendarIsAsPrinted =
-    Holds lengthsIn monthLengths
-    × Holds (λ month. daysInMonth (month .0) (month .1)) noMonths
-    × Holds weekdayOn weekdays
-    × Holds dayNumber dayNumbers
-    × Holds dateOf datesOfDays
-    × Holds nextDay daysAfter
-    × Holds secondOfDay secondsOfTheDay
-    × Holds nextSecond secondsAfter
+    GivesTheTable lengthsIn monthLengths
+    × GivesTheTable (λ month. daysInMonth (month .0) (month .1)) noMonths
+    × GivesTheTable weekdayOn weekdays
+    × GivesTheTable dayNumber dayNumbers
+    × GivesTheTable dateOf datesOfDays
+    × GivesTheTable nextDay daysAfter
+    × GivesTheTable secondOfDay secondsOfTheDay
+    × GivesTheTable nextSecond secondsAfter

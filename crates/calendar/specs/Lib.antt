@@ -3,4 +3,5 @@ pub mod Calendar
 pub mod TimeOfDay
 pub mod Answers
 pub mod RoundTrip
+pub mod Literals
 pub mod AsPrinted

@@ -2,46 +2,32 @@
 use mathlib.Core.Bool.{true, false}
 use mathlib.Core.List.{List, [], _∷_}
 use mathlib.Core.Path.{_≡_}
-use Prim.Native.Nat.{ℕ}
-use Rattle.calendar.specs.declared.date.Date.{Date}
-use Rattle.calendar.specs.declared.time.Time.{Time}
+use Rattle.refusals.specs.Tables.{EachHolds}
+use Rattle.calendar.specs.Literals.{date, time}
 use Rattle.record.specs.declared.DatedLayout.the-variants.{L6021}
 use Rattle.record.specs.declared.TimeLayout.the-variants.{T6021}
 use Rattle.record.specs.declared.Reception.the-variants.{Radio}
 use Rattle.record.specs.declared.Status.{Status}
 use Rattle.record.specs.declared.Record.{Record}
 use Rattle.record.specs.declared.Record.the-variants.{Dated, TimeOnly}
+use Rattle.record.specs.Literals.{statusOf, standardTime}
 use Rattle.clock.specs.declared.StepAnswer.{StepAnswer}
 use Rattle.clock.specs.declared.StepAnswer.the-variants.{Stepped, Refused}
 use Rattle.clock.specs.Stepping.{stepOf}
 
 -- a row: the clock's record, the record after one step, and what the step tells
-pub data Row : Type 0 where
-  stepIs : Record → Record → StepAnswer → Row
+pub data StepRow : Type 0 where
+  stepIs : Record → Record → StepAnswer → StepRow
 
-abbrev pub Holds : Row → Type 0
-Holds (stepIs rec next answer) = stepOf (record { rec = rec }) ≡ record { clock = record { rec = next }; answer = answer }
-
-abbrev pub EveryRowHolds : List Row → Type 0
-EveryRowHolds [] = Unit {0}
-EveryRowHolds (row ∷ rows) = Holds row × EveryRowHolds rows
-
--- the words of the table
-abbrev pub date : ℕ → ℕ → ℕ → Date
-date year month day = record { year = year; month = month; day = day }
-
-abbrev pub time : ℕ → ℕ → ℕ → Time
-time hour minute second = record { hour = hour; minute = minute; second = second }
-
-abbrev pub standardTime : Status
-standardTime = record { reception = Radio; daylight = false; utc = false; announced = false }
+abbrev pub StepRowHolds : StepRow → Type 0
+StepRowHolds (stepIs rec next answer) = stepOf (record { rec = rec }) ≡ record { clock = record { rec = next }; answer = answer }
 
 abbrev pub daylightAnnounced : Status
-daylightAnnounced = record { reception = Radio; daylight = true; utc = false; announced = true }
+daylightAnnounced = statusOf Radio true false true
 
 -- A record: layout, status, weekday, date, time
-abbrev pub asPrinted : List Row
-asPrinted =
+abbrev pub printedSteps : List StepRow
+printedSteps =
     -- "stepped by one second", "date and weekday included"
     stepIs (Dated L6021 standardTime 5 (date 1999 12 31) (time 23 59 59)) (Dated L6021 standardTime 6 (date 2000 1 1) (time 0 0 0)) Stepped
     -- "stepping does not change the season": nor where summer ends
@@ -55,4 +41,4 @@ asPrinted =
 
 -- one statement over the table
 abbrev pub StepsAreAsPrinted : Type 0
-StepsAreAsPrinted = EveryRowHolds asPrinted
+StepsAreAsPrinted = EachHolds StepRowHolds printedSteps

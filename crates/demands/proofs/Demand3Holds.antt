@@ -13,7 +13,7 @@ use Rattle.line.specs.SentLine.{Sent, allGood}
 use Rattle.line.proofs.CutLaws.{Splitting, feeding-splits, a-feeding-is, good-fresh}
 use Rattle.line.proofs.UsesUp.{using-up-splits, using-up-tells-the-line, using-up-is-such-a-feeding}
 use Rattle.line.proofs.HandsBack.{exactly-those, true-stray, end-then, same-line-same-records}
-use Rattle.demands.specs.Demand3.{GoodTelegrams, NoStxAround, HandsBack, TheReaderHandsBackThatList, EveryCutCanBeUsedUp, UsingUpIsSuchAFeeding, UsingUpHandsBackThatList, TwoListsThatDifferNeverMakeTheSameLine}
+use Rattle.demands.specs.Demand3.{GoodTelegrams, NoStxAround, HandsBack, TheReaderHandsBackThatList, EveryCutCanBeUsedUp, UsingUpIsAFeedingToo, UsingUpHandsBackThatList, TwoListsThatDifferNeverMakeTheSameLine}
 
 -- the two conditions, as the one test of the line's laws
 all-good : (sents : List Sent) (behind : List ℕ) → GoodTelegrams sents → NoStxAround sents behind → allGood sents behind ≡ true
@@ -36,7 +36,7 @@ demand-3-hands-back-that-list = hands-back (feeding feedReader) feeding-splits
 pub demand-3-every-cut : EveryCutCanBeUsedUp
 demand-3-every-cut pieces = a-feeding-is (feeding feedReader) feeding-splits pieces freshLine freshReader good-fresh refl
 
-pub demand-3-using-up : UsingUpIsSuchAFeeding
+pub demand-3-using-up : UsingUpIsAFeedingToo
 demand-3-using-up = (using-up-is-such-a-feeding, using-up-tells-the-line .1)
 
 pub demand-3-using-up-hands-back : UsingUpHandsBackThatList

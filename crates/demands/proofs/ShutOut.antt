@@ -25,7 +25,7 @@ use Rattle.line.specs.Cuts.{heardThen, feeding, Served, AllUsedUp}
 use Rattle.line.specs.SentLine.{Sent, bytesSent, eventsSent}
 use Rattle.demands.specs.Demand2.{WritesByTheTables, ReadsByTheTables}
 use Rattle.demands.specs.Demand3.{HandsBackThatList}
-use Rattle.demands.specs.Wrong.{refusingReader, answering, refusingLine, midnight, fixedReader, fixedLine, idleWriter, firstPieceLine, withStray, inventingLine}
+use Rattle.demands.specs.Wrong.{refusingReader, answering, refusingLine, fixedRecord, fixedReader, fixedLine, idleWriter, firstPieceLine, withStray, inventingLine}
 
 -- a good telegram, fed as one piece
 abbrev early : Record
@@ -114,14 +114,14 @@ refusing-reader-is-shut-out demand =
 -- "one that returns one fixed record (2 and 3)"
 pub fixed-line-is-shut-out : HandsBackThatList fixedLine → ⊥
 fixed-line-is-shut-out demand =
-    let fed : Fed = record { reader = heard-it .reader; taken = 10; heard = Event (answer.Good midnight) 0 10 } in
-    let is : fixedLine freshReader its-bytes ≡ fed = ap (λ f. record { reader = f .reader; taken = f .taken; heard = answering (answer.Good midnight) (f .heard) }) heard-so in
+    let fed : Fed = record { reader = heard-it .reader; taken = 10; heard = Event (answer.Good fixedRecord) 0 10 } in
+    let is : fixedLine freshReader its-bytes ≡ fed = ap (λ f. record { reader = f .reader; taken = f .taken; heard = answering (answer.Good fixedRecord) (f .heard) }) heard-so in
     let told : _≡_ {A = ℕ} 0 1 = ap hourOf (hears fixedLine fed is refl demand) in
     omega arith
 
 pub fixed-reader-is-shut-out : ReadsByTheTables fixedReader → ⊥
 fixed-reader-is-shut-out demand =
-    let told : length (telegramOf true midnight) ≡ 0 = ap length (demand true [] midnight .0 refl .1) in
+    let told : length (telegramOf true fixedRecord) ≡ 0 = ap length (demand true [] fixedRecord .0 refl .1) in
     omega arith
 
 -- "a writer .. that does nothing (2)"

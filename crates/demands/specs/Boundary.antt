@@ -4,8 +4,8 @@ use mathlib.Core.List.{List, [], _∷_, _++_}
 use mathlib.Core.Path.{_≡_}
 use Prim.Native.Nat.{ℕ}
 use Rattle.refusals.specs.Refusals.{Outcome, done, refused}
-use Rattle.calendar.specs.declared.date.Date.{Date}
-use Rattle.calendar.specs.declared.time.Time.{Time}
+use Rattle.refusals.specs.Tables.{EachHolds}
+use Rattle.calendar.specs.Literals.{date, time}
 use Rattle.record.specs.declared.DatedLayout.the-variants.{L6021, L5500}
 use Rattle.record.specs.declared.TimeLayout.the-variants.{T6021, T5500}
 use Rattle.record.specs.declared.Reception.the-variants.{Crystal, Radio, High}
@@ -13,62 +13,48 @@ use Rattle.record.specs.declared.Status.{Status}
 use Rattle.record.specs.declared.Record.{Record}
 use Rattle.record.specs.declared.Record.the-variants.{Dated, TimeOnly}
 use Rattle.record.specs.declared.season.UtcSeconds.{UtcSeconds}
+use Rattle.record.specs.Literals.{statusOf}
 use Rattle.record.specs.Utc.{utcSeconds}
 use Rattle.telegram.specs.Reading.{readOf}
 use Rattle.board.specs.declared.Parity.the-variants.{None}
 use Rattle.board.specs.declared.of_6036.Parameter.{Parameter}
 use Rattle.board.specs.Of6036.{parameterIn}
 use Rattle.ascii.specs.Ascii.{ascii}
+use Rattle.ascii.specs.Control.{stx, etx, lfCr, crLf}
 
 -- a row: a telegram without STX and ETX, a parameter byte, or a record to be put in UTC seconds; and its outcome
-pub data Row : Type 0 where
-  telegram : List ℕ → Outcome Record → Row
-  parameter : ℕ → Parameter → Row
-  toUtc : Record → Outcome UtcSeconds → Row
+pub data BoundaryRow : Type 0 where
+  telegram : List ℕ → Outcome Record → BoundaryRow
+  parameter : ℕ → Parameter → BoundaryRow
+  toUtc : Record → Outcome UtcSeconds → BoundaryRow
 
 -- a row holds: a telegram has its outcome without control characters, and with them between STX and ETX
-abbrev pub Holds : Row → Type 0
-Holds (telegram bytes outcome) = (readOf false bytes ≡ outcome) × (readOf true (2 ∷ bytes ++ 3 ∷ []) ≡ outcome)
-Holds (parameter byte setting) = parameterIn byte ≡ setting
-Holds (toUtc rec outcome) = utcSeconds rec ≡ outcome
-
-abbrev pub EveryRowHolds : List Row → Type 0
-EveryRowHolds [] = Unit {0}
-EveryRowHolds (row ∷ rows) = Holds row × EveryRowHolds rows
+abbrev pub BoundaryRowHolds : BoundaryRow → Type 0
+BoundaryRowHolds (telegram bytes outcome) = (readOf false bytes ≡ outcome) × (readOf true (stx ∷ bytes ++ etx ∷ []) ≡ outcome)
+BoundaryRowHolds (parameter byte setting) = parameterIn byte ≡ setting
+BoundaryRowHolds (toUtc rec outcome) = utcSeconds rec ≡ outcome
 
 -- the words of the table
-abbrev pub lfCr : List ℕ
-lfCr = 10 ∷ 13 ∷ []
-
-abbrev pub crLf : List ℕ
-crLf = 13 ∷ 10 ∷ []
-
-abbrev pub date : ℕ → ℕ → ℕ → Date
-date year month day = record { year = year; month = month; day = day }
-
-abbrev pub time : ℕ → ℕ → ℕ → Time
-time hour minute second = record { hour = hour; minute = minute; second = second }
-
 abbrev pub highDaylight : Status
-highDaylight = record { reception = High; daylight = true; utc = false; announced = false }
+highDaylight = statusOf High true false false
 
 abbrev pub highStandard : Status
-highStandard = record { reception = High; daylight = false; utc = false; announced = false }
+highStandard = statusOf High false false false
 
 abbrev pub highUtc : Status
-highUtc = record { reception = High; daylight = false; utc = true; announced = false }
+highUtc = statusOf High false true false
 
 abbrev pub crystalStandard : Status
-crystalStandard = record { reception = Crystal; daylight = false; utc = false; announced = false }
+crystalStandard = statusOf Crystal false false false
 
 abbrev pub crystalStandardAnnounced : Status
-crystalStandardAnnounced = record { reception = Crystal; daylight = false; utc = false; announced = true }
+crystalStandardAnnounced = statusOf Crystal false false true
 
 abbrev pub radioStandard : Status
-radioStandard = record { reception = Radio; daylight = false; utc = false; announced = false }
+radioStandard = statusOf Radio false false false
 
 -- in the table's order. A record: layout, status, weekday, date, time
-abbrev pub boundaryTable : List Row
+abbrev pub boundaryTable : List BoundaryRow
 boundaryTable =
     -- P1
     telegram (ascii "E3123456170496" ++ lfCr) (done (Dated L6021 highDaylight 3 (date 1996 4 17) (time 12 34 56)))
@@ -100,4 +86,4 @@ boundaryTable =
 
 -- "proved, together, by one statement over the table"
 abbrev pub TheBoundaryTableHolds : Type 0
-TheBoundaryTableHolds = EveryRowHolds boundaryTable
+TheBoundaryTableHolds = EachHolds BoundaryRowHolds boundaryTable

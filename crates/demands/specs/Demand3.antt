@@ -50,8 +50,8 @@ EveryCutCanBeUsedUp = (pieces : List (List ℕ)) → AllUsedUp (feeding feeds) f
 
 -- The public function that uses a piece up is such a feeding, for pieces of any length: called again on what is left of a piece until
 -- nothing is, it hands on the events of the calls of feed and leaves their reader. So it hands back that list too.
-abbrev pub UsingUpIsSuchAFeeding : Type 0
-UsingUpIsSuchAFeeding = SameByAnyCut usingUp (feeding feeds) × UsesUpAnyCut usingUp
+abbrev pub UsingUpIsAFeedingToo : Type 0
+UsingUpIsAFeedingToo = SameByAnyCut usingUp (feeding feeds) × UsesUpAnyCut usingUp
 
 abbrev pub UsingUpHandsBackThatList : Type 0
 UsingUpHandsBackThatList = HandsBack usingUp

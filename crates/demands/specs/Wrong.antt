@@ -34,14 +34,14 @@ abbrev pub refusingLine : Reader → List ℕ → Fed
 refusingLine = answeringLine (answer.Refused 1)
 
 -- "one that returns one fixed record"
-abbrev pub midnight : Record
-midnight = TimeOnly T6021 (record { hour = 0; minute = 0; second = 0 })
+abbrev pub fixedRecord : Record
+fixedRecord = TimeOnly T6021 (record { hour = 0; minute = 0; second = 0 })
 
 abbrev pub fixedReader : Bool → List ℕ → Outcome Record
-fixedReader control bytes = done midnight
+fixedReader control bytes = done fixedRecord
 
 abbrev pub fixedLine : Reader → List ℕ → Fed
-fixedLine = answeringLine (answer.Good midnight)
+fixedLine = answeringLine (answer.Good fixedRecord)
 
 -- "a writer .. that does nothing"
 abbrev pub idleWriter : Choice → Record → ℕ → Outcome (List ℕ)

@@ -8,10 +8,9 @@ use Prim.Native.String.{String}
 use lib.ListN.{getD}
 use Rattle.refusals.specs.Refusals.{_when_, _else_, Outcome, done, refused, unless, after}
 use Rattle.ascii.specs.Ascii.{ascii}
-use Rattle.ascii.specs.Control.{cr, lf}
+use Rattle.ascii.specs.Control.{lfCr, crLf}
 use Rattle.places.specs.Places.{codeValue, codeCharacter, gather, rowFault, noDigits, render}
-use Rattle.calendar.specs.declared.date.Date.{Date}
-use Rattle.calendar.specs.declared.time.Time.{Time}
+use Rattle.calendar.specs.Literals.{date, time}
 use Rattle.record.specs.declared.DatedLayout.{DatedLayout}
 use Rattle.record.specs.declared.DatedLayout.the-variants.{L6021, L2000, L5500, L5050}
 use Rattle.record.specs.declared.TimeLayout.the-variants.{T6021, T5500, T5050}
@@ -20,6 +19,7 @@ use Rattle.record.specs.declared.Reception.the-variants.{Invalid, Crystal, Radi
 use Rattle.record.specs.declared.Status.{Status}
 use Rattle.record.specs.declared.Record.{Record}
 use Rattle.record.specs.declared.Record.the-variants.{Dated, TimeOnly}
+use Rattle.record.specs.Literals.{statusOf}
 use Rattle.record.specs.Rule.{statusAllowed, weekdayAllowed, refusalOf}
 use Rattle.layouts.specs.Layouts.{placesOf, ownLayout, layoutOf}
 use Rattle.layouts.specs.Coding.{statusIn, statusOut, weekdayIn, weekdayOut, recordIn, digitsOut}
@@ -47,18 +47,19 @@ localTime = false
 abbrev pub utcTime : Bool
 utcTime = true
 
-abbrev pub status : Reception → Bool → Bool → Bool → Status
-status reception season changeover utc = record { reception = reception; daylight = season; utc = utc; announced = changeover }
+-- reception, season, changeover, UTC
+abbrev pub statusSaying : Reception → Bool → Bool → Bool → Status
+statusSaying reception season changeover utc = statusOf reception season utc changeover
 
 -- 6021 and 2000: the weekday's character says whether it is UTC; in 5500 and 5050 the status does
 abbrev pub utcByWeekday : Reception → Bool → Bool → Bool → Outcome Status
-utcByWeekday reception season changeover utc = done (status reception season changeover utc)
+utcByWeekday reception season changeover utc = done (statusSaying reception season changeover utc)
 
 abbrev pub local : Reception → Bool → Bool → Bool → Outcome Status
-local reception season changeover byWeekday = done (status reception season changeover localTime)
+local reception season changeover byWeekday = done (statusSaying reception season changeover localTime)
 
-abbrev pub inUtc : Reception → Bool → Outcome Status
-inUtc reception byWeekday = done (status reception standard quiet utcTime)
+abbrev pub utcStatus : Reception → Bool → Outcome Status
+utcStatus reception byWeekday = done (statusSaying reception standard quiet utcTime)
 
 abbrev pub noStatus : Bool → Outcome Status
 noStatus byWeekday = refused 5
@@ -128,8 +129,8 @@ statusOf5500 =
     ∷ "5" means local Crystal daylight quiet
     ∷ "6" means local Radio daylight announced
     ∷ "7" means local Crystal daylight announced
-    ∷ "8" means inUtc Radio
-    ∷ "9" means inUtc Crystal
+    ∷ "8" means utcStatus Radio
+    ∷ "9" means utcStatus Crystal
     ∷ "A" means noStatus
     ∷ "B" means noStatus
     ∷ "C" means noStatus
@@ -160,32 +161,20 @@ weekdayOf5500 =
     ∷ []
 
 -- Telegrams between STX and ETX, with the record that each carries: layout, status, weekday, date, time.
-abbrev pub lfCr : List ℕ
-lfCr = lf ∷ cr ∷ []
-
-abbrev pub crLf : List ℕ
-crLf = cr ∷ lf ∷ []
-
-abbrev pub date : ℕ → ℕ → ℕ → Date
-date year month day = record { year = year; month = month; day = day }
-
-abbrev pub time : ℕ → ℕ → ℕ → Time
-time hour minute second = record { hour = hour; minute = minute; second = second }
-
 abbrev pub telegrams : List (List ℕ × Record)
 telegrams =
-    (ascii "DB205841170496" ++ lfCr, Dated L6021 (status High standard announced utcTime) 3 (date 1996 4 17) (time 20 58 41))
+    (ascii "DB205841170496" ++ lfCr, Dated L6021 (statusSaying High standard announced utcTime) 3 (date 1996 4 17) (time 20 58 41))
     ∷ (ascii "102947" ++ lfCr, TimeOnly T6021 (time 10 29 47))
-    ∷ (ascii "A413520925061987" ++ lfCr, Dated L2000 (status Radio daylight quiet localTime) 4 (date 1987 6 25) (time 13 52 9))
-    ∷ (ascii "5 211746 260893 4" ++ crLf, Dated L5500 (status Crystal daylight quiet localTime) 4 (date 1993 8 26) (time 21 17 46))
+    ∷ (ascii "A413520925061987" ++ lfCr, Dated L2000 (statusSaying Radio daylight quiet localTime) 4 (date 1987 6 25) (time 13 52 9))
+    ∷ (ascii "5 211746 260893 4" ++ crLf, Dated L5500 (statusSaying Crystal daylight quiet localTime) 4 (date 1993 8 26) (time 21 17 46))
     ∷ (ascii "231458" ++ crLf, TimeOnly T5500 (time 23 14 58))
-    ∷ (ascii "18 49 06 27 12 38 31 " ++ crLf, Dated L5050 (status Crystal standard announced localTime) 1 (date 2038 12 27) (time 18 49 6))
+    ∷ (ascii "18 49 06 27 12 38 31 " ++ crLf, Dated L5050 (statusSaying Crystal standard announced localTime) 1 (date 2038 12 27) (time 18 49 6))
     ∷ (ascii "07 36 51 " ++ crLf, TimeOnly T5050 (time 7 36 51))
     -- "a two-digit year 80 to 99 is 1980 to 1999, and 00 to 79 is 2000 to 2079"
-    ∷ (ascii "82000000010180" ++ lfCr, Dated L6021 (status Radio standard quiet localTime) 2 (date 1980 1 1) (time 0 0 0))
-    ∷ (ascii "85235959311299" ++ lfCr, Dated L6021 (status Radio standard quiet localTime) 5 (date 1999 12 31) (time 23 59 59))
-    ∷ (ascii "86000000010100" ++ lfCr, Dated L6021 (status Radio standard quiet localTime) 6 (date 2000 1 1) (time 0 0 0))
-    ∷ (ascii "87235959311279" ++ lfCr, Dated L6021 (status Radio standard quiet localTime) 7 (date 2079 12 31) (time 23 59 59))
+    ∷ (ascii "82000000010180" ++ lfCr, Dated L6021 (statusSaying Radio standard quiet localTime) 2 (date 1980 1 1) (time 0 0 0))
+    ∷ (ascii "85235959311299" ++ lfCr, Dated L6021 (statusSaying Radio standard quiet localTime) 5 (date 1999 12 31) (time 23 59 59))
+    ∷ (ascii "86000000010100" ++ lfCr, Dated L6021 (statusSaying Radio standard quiet localTime) 6 (date 2000 1 1) (time 0 0 0))
+    ∷ (ascii "87235959311279" ++ lfCr, Dated L6021 (statusSaying Radio standard quiet localTime) 7 (date 2079 12 31) (time 23 59 59))
     ∷ []
 
 -- What the definitions make of two characters, and of a telegram.

@@ -46,22 +46,22 @@ yyyy = decimal 12 ∷ decimal 13 ∷ yy
 abbrev pub space : Place
 space = fixed 32
 
-abbrev pub lf : Place
-lf = fixed control.lf
+abbrev pub LF : Place
+LF = fixed control.lf
 
-abbrev pub cr : Place
-cr = fixed control.cr
+abbrev pub CR : Place
+CR = fixed control.cr
 
 -- the table, "between STX and ETX"
 unfoldable pub placesOf : Layout → List Place
-placesOf (layouts.Dated L6021) = status ∷ weekday ∷ hh ++ mm ++ ss ++ dd ++ mo ++ yy ++ lf ∷ cr ∷ []
-placesOf (layouts.TimeOnly T6021) = hh ++ mm ++ ss ++ lf ∷ cr ∷ []
-placesOf (layouts.Dated L2000) = status ∷ weekday ∷ hh ++ mm ++ ss ++ dd ++ mo ++ yyyy ++ lf ∷ cr ∷ []
-placesOf (layouts.Dated L5500) = status ∷ space ∷ hh ++ mm ++ ss ++ space ∷ dd ++ mo ++ yy ++ space ∷ weekday ∷ cr ∷ lf ∷ []
-placesOf (layouts.TimeOnly T5500) = hh ++ mm ++ ss ++ cr ∷ lf ∷ []
+placesOf (layouts.Dated L6021) = status ∷ weekday ∷ hh ++ mm ++ ss ++ dd ++ mo ++ yy ++ LF ∷ CR ∷ []
+placesOf (layouts.TimeOnly T6021) = hh ++ mm ++ ss ++ LF ∷ CR ∷ []
+placesOf (layouts.Dated L2000) = status ∷ weekday ∷ hh ++ mm ++ ss ++ dd ++ mo ++ yyyy ++ LF ∷ CR ∷ []
+placesOf (layouts.Dated L5500) = status ∷ space ∷ hh ++ mm ++ ss ++ space ∷ dd ++ mo ++ yy ++ space ∷ weekday ∷ CR ∷ LF ∷ []
+placesOf (layouts.TimeOnly T5500) = hh ++ mm ++ ss ++ CR ∷ LF ∷ []
 placesOf (layouts.Dated L5050) =
-    hh ++ space ∷ mm ++ space ∷ ss ++ space ∷ dd ++ space ∷ mo ++ space ∷ yy ++ space ∷ status ∷ weekday ∷ space ∷ cr ∷ lf ∷ []
-placesOf (layouts.TimeOnly T5050) = hh ++ space ∷ mm ++ space ∷ ss ++ space ∷ cr ∷ lf ∷ []
+    hh ++ space ∷ mm ++ space ∷ ss ++ space ∷ dd ++ space ∷ mo ++ space ∷ yy ++ space ∷ status ∷ weekday ∷ space ∷ CR ∷ LF ∷ []
+placesOf (layouts.TimeOnly T5050) = hh ++ space ∷ mm ++ space ∷ ss ++ space ∷ CR ∷ LF ∷ []
 
 -- the rows as the code keeps them: one number a place, one row behind another
 unfoldable pub allRows : List ℕ

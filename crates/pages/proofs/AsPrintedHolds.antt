@@ -11,8 +11,8 @@ use Rattle.telegram.specs.Reading.{carried, bodyRefusal, readOf}
 use Rattle.listing.specs.Decimals.{decimal, decimalWithin}
 use Rattle.listing.specs.Listing.{headerRow, datedRow, refusedRow, strayRow, statusColumn}
 use Rattle.pages.specs.Whole.{listingOf}
-use Rattle.pages.specs.AsPrinted.{TheListingIsAsPrinted}
+use Rattle.pages.specs.AsPrinted.{TheWholeListingIsAsPrinted}
 
-pub as-printed : TheListingIsAsPrinted
+pub as-printed : TheWholeListingIsAsPrinted
 unfolding unless isDecimal isCapital codeValue isLeap monthLength monthInRange dateInRange dayExists monthStart dayOf timeInRange timeRefusal plainUtc tableCanSay statusAllowed weekdayAllowed weekdayAgrees datedRefusal placesOf layoutOf statusIn6021 statusIn5500 carried bodyRefusal readOf decimal decimalWithin headerRow datedRow refusedRow strayRow statusColumn listingOf
 as-printed = (refl, refl)

@@ -20,5 +20,5 @@ printedListing =
 abbrev pub emptyListing : List ℕ
 emptyListing = ascii "start;kind;date;time;weekday;status\n" ++ ascii "stray 0\n"
 
-abbrev pub TheListingIsAsPrinted : Type 0
-TheListingIsAsPrinted = (listingOf printedInput ≡ printedListing) × (listingOf [] ≡ emptyListing)
+abbrev pub TheWholeListingIsAsPrinted : Type 0
+TheWholeListingIsAsPrinted = (listingOf printedInput ≡ printedListing) × (listingOf [] ≡ emptyListing)

@@ -4,68 +4,43 @@ use mathlib.Core.List.{List, [], _∷_}
 use mathlib.Core.Path.{_≡_}
 use Prim.Native.Nat.{ℕ}
 use Rattle.refusals.specs.Refusals.{Outcome, done, refused}
-use Rattle.calendar.specs.declared.date.Date.{Date}
-use Rattle.calendar.specs.declared.time.Time.{Time}
+use Rattle.refusals.specs.Tables.{EachHolds}
+use Rattle.calendar.specs.Literals.{date, time}
 use Rattle.record.specs.declared.DatedLayout.the-variants.{L6021, L2000, L5500, L5050}
 use Rattle.record.specs.declared.TimeLayout.the-variants.{T6021}
-use Rattle.record.specs.declared.Reception.{Reception}
 use Rattle.record.specs.declared.Reception.the-variants.{Invalid, Crystal, Radio, High}
-use Rattle.record.specs.declared.Status.{Status}
 use Rattle.record.specs.declared.Record.{Record}
 use Rattle.record.specs.declared.Record.the-variants.{Dated, TimeOnly}
 use Rattle.record.specs.declared.season.LocalSeconds.{LocalSeconds}
 use Rattle.record.specs.declared.season.UtcSeconds.{UtcSeconds}
 use Rattle.record.specs.declared.season.Count.{Count}
 use Rattle.record.specs.declared.season.Count.the-variants.{Local, Utc}
+use Rattle.record.specs.Literals.{statusOf, standardTime, daylightTime, markedUtc}
 use Rattle.record.specs.Season.{toUtc}
 use Rattle.record.specs.Rule.{refusalOf}
 use Rattle.record.specs.Utc.{countOf, utcSeconds}
 
 -- a row: a record and the number that refuses it, its count, or its UTC seconds; or a local second and a season, and the UTC second
-pub data Row : Type 0 where
-  refusalIs : Record → ℕ → Row
-  countIs : Record → Outcome Count → Row
-  utcIs : Record → Outcome UtcSeconds → Row
-  shiftIs : LocalSeconds → Bool → Outcome UtcSeconds → Row
+pub data RecordRow : Type 0 where
+  refusalIs : Record → ℕ → RecordRow
+  countIs : Record → Outcome Count → RecordRow
+  utcIs : Record → Outcome UtcSeconds → RecordRow
+  shiftIs : LocalSeconds → Bool → Outcome UtcSeconds → RecordRow
 
-abbrev pub Holds : Row → Type 0
-Holds (refusalIs rec number) = refusalOf rec ≡ number
-Holds (countIs rec outcome) = countOf rec ≡ outcome
-Holds (utcIs rec outcome) = utcSeconds rec ≡ outcome
-Holds (shiftIs local daylight outcome) = toUtc local daylight ≡ outcome
-
-abbrev pub EveryRowHolds : List Row → Type 0
-EveryRowHolds [] = Unit {0}
-EveryRowHolds (row ∷ rows) = Holds row × EveryRowHolds rows
-
--- the words of the table
-abbrev pub date : ℕ → ℕ → ℕ → Date
-date year month day = record { year = year; month = month; day = day }
-
-abbrev pub time : ℕ → ℕ → ℕ → Time
-time hour minute second = record { hour = hour; minute = minute; second = second }
-
--- reception, daylight, UTC, announced
-abbrev pub status : Reception → Bool → Bool → Bool → Status
-status reception daylight utc announced = record { reception = reception; daylight = daylight; utc = utc; announced = announced }
-
-abbrev pub standardTime : Status
-standardTime = status Radio false false false
-
-abbrev pub daylightTime : Status
-daylightTime = status Radio true false false
-
-abbrev pub markedUtc : Status
-markedUtc = status Radio false true false
+abbrev pub RecordRowHolds : RecordRow → Type 0
+RecordRowHolds (refusalIs rec number) = refusalOf rec ≡ number
+RecordRowHolds (countIs rec outcome) = countOf rec ≡ outcome
+RecordRowHolds (utcIs rec outcome) = utcSeconds rec ≡ outcome
+RecordRowHolds (shiftIs local daylight outcome) = toUtc local daylight ≡ outcome
 
 -- A record: layout, status, weekday, date, time
-abbrev pub asPrinted : List Row
-asPrinted =
+abbrev pub printedRecords : List RecordRow
+printedRecords =
     -- "local is UTC plus 3,600 in standard time, plus 7,200 in daylight time; a record marked UTC is not shifted"
     utcIs (Dated L6021 standardTime 3 (date 1996 1 3) (time 12 34 56)) (done (record { 0 = 505136096 }))
     ∷ utcIs (Dated L6021 daylightTime 3 (date 1996 4 17) (time 12 34 56)) (done (record { 0 = 514204496 }))
     ∷ utcIs (Dated L6021 markedUtc 3 (date 1996 1 3) (time 12 34 56)) (done (record { 0 = 505139696 }))
-    ∷ utcIs (Dated L6021 (status Radio true true false) 3 (date 1996 1 3) (time 12 34 56)) (done (record { 0 = 505139696 }))
+    ∷ utcIs (Dated L6021 (statusOf Radio true true false) 3 (date 1996 1 3) (time 12 34 56)) (done (record { 0 = 505139696 }))
     -- "before 1.1.1980 00:00 UTC: 12"
     ∷ utcIs (Dated L6021 standardTime 2 (date 1980 1 1) (time 1 0 0)) (done (record { 0 = 0 }))
     ∷ utcIs (Dated L6021 standardTime 2 (date 1980 1 1) (time 0 59 59)) (refused 12)
@@ -84,14 +59,14 @@ asPrinted =
     ∷ countIs (TimeOnly T6021 (time 12 0 0)) (refused 14)
     ∷ utcIs (TimeOnly T6021 (time 12 0 0)) (refused 14)
     -- "a 5500 or 5050 record with reception invalid or high accuracy, or UTC with summer or announced": 5
-    ∷ refusalIs (Dated L5500 (status Invalid false false false) 3 (date 1996 1 3) (time 12 34 56)) 5
-    ∷ refusalIs (Dated L5050 (status High false false false) 3 (date 1996 1 3) (time 12 34 56)) 5
-    ∷ refusalIs (Dated L5500 (status Radio true true false) 3 (date 1996 1 3) (time 12 34 56)) 5
-    ∷ refusalIs (Dated L5050 (status Crystal false true true) 3 (date 1996 1 3) (time 12 34 56)) 5
-    ∷ refusalIs (Dated L5500 (status Crystal true false true) 3 (date 1996 1 3) (time 12 34 56)) 0
+    ∷ refusalIs (Dated L5500 (statusOf Invalid false false false) 3 (date 1996 1 3) (time 12 34 56)) 5
+    ∷ refusalIs (Dated L5050 (statusOf High false false false) 3 (date 1996 1 3) (time 12 34 56)) 5
+    ∷ refusalIs (Dated L5500 (statusOf Radio true true false) 3 (date 1996 1 3) (time 12 34 56)) 5
+    ∷ refusalIs (Dated L5050 (statusOf Crystal false true true) 3 (date 1996 1 3) (time 12 34 56)) 5
+    ∷ refusalIs (Dated L5500 (statusOf Crystal true false true) 3 (date 1996 1 3) (time 12 34 56)) 0
     -- of 6021 and 2000 "all sixteen are legal"; "with UTC the daylight bit is still carried as it stands"
-    ∷ refusalIs (Dated L6021 (status High true true true) 3 (date 1996 1 3) (time 12 34 56)) 0
-    ∷ refusalIs (Dated L2000 (status Invalid true true true) 3 (date 1996 1 3) (time 12 34 56)) 0
+    ∷ refusalIs (Dated L6021 (statusOf High true true true) 3 (date 1996 1 3) (time 12 34 56)) 0
+    ∷ refusalIs (Dated L2000 (statusOf Invalid true true true) 3 (date 1996 1 3) (time 12 34 56)) 0
     -- "1 Monday to 7 Sunday", and 3 January 1996 a Wednesday
     ∷ refusalIs (Dated L6021 standardTime 0 (date 1996 1 3) (time 12 34 56)) 5
     ∷ refusalIs (Dated L6021 standardTime 8 (date 1996 1 3) (time 12 34 56)) 5
@@ -100,4 +75,4 @@ asPrinted =
 
 -- one statement over the table
 abbrev pub RecordsAreAsPrinted : Type 0
-RecordsAreAsPrinted = EveryRowHolds asPrinted
+RecordsAreAsPrinted = EachHolds RecordRowHolds printedRecords
