@@ -9,7 +9,7 @@ use record::Record;
 use record::Status;
 use record::rule::table_of_6021;
 ghost use mathlib.Core.Path.{_≡_};
-ghost use Prim.Native.Nat.{_+_, _*_, _%_};
+ghost use Prim.Native.Nat.{_+_, _*_, _%_, _≤_};
 ghost use Rattle.bits.specs.Bits.{bit};
 ghost use Rattle.layouts.specs.Coding.{receptionAt, receptionNumber, statusIn6021, statusIn5500, statusIn, statusOut6021, statusOut5500, statusOut, weekdayIn, weekdayOut, hasFullYear, fullYear, yearIn, centuryOut, timeIn, dateIn, recordIn, digitsOut};
 
@@ -25,7 +25,7 @@ fn reception_at(bits: u8) -> Reception
 }
 
 fn reception_number(reception: Reception) -> u8
-    ensures { λ r. ⌜ r ≡ receptionNumber reception ⌝ }
+    ensures { λ r. ⌜ (r ≡ receptionNumber reception) × (r ≤ 3) ⌝ }
 {
     match reception {
         Reception::Invalid => 0,
@@ -36,7 +36,7 @@ fn reception_number(reception: Reception) -> u8
 }
 
 fn bit(on: bool) -> u8
-    ensures { λ r. ⌜ r ≡ bit on ⌝ }
+    ensures { λ r. ⌜ (r ≡ bit on) × (r ≤ 1) ⌝ }
 {
     if on {
         return 1;

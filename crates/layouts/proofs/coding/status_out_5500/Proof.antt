@@ -1,8 +1,5 @@
 -- `layouts::coding::status_out_5500` meets its contract.
-use native.Mathlib.Omega.{arith}
-use lib.Dec.{eqb}
 use Rattle.layouts.specs.Coding.{statusOut5500}
-use Rattle.layouts.proofs.Bits.{bit-small}
 use borrow.Author.Needs.{needs}
 use Rattle.layouts.proofs.coding.status_out_5500.Statement.{statement}
 use Rattle.layouts.proofs.coding.status_out_5500.Tie as tie
@@ -14,41 +11,36 @@ bit-requires : tie.Need-bit-requires
 bit-requires c κs = search needs
 
 mul-result : tie.Need-mul-result
-mul-result c = omega (arith, c .bit .ensures, bit-small (c .before .before .args .status .utc))
+mul-result c = search needs
 
 bit-requires-2 : tie.Need-bit-requires-2
 bit-requires-2 c κs = search needs
 
 mul-result-2 : tie.Need-mul-result-2
-mul-result-2 c = omega (arith, c .bit2 .ensures, bit-small (c .before .before .before .args .status .daylight))
+mul-result-2 c = search needs
 
 add-result : tie.Need-add-result
-add-result c =
-    omega (arith, c .before .bit .ensures, bit-small (c .before .before .before .args .status .utc), c .bit2 .ensures, bit-small (c .before .before .before .args .status .daylight))
+add-result c = search needs
 
 bit-requires-3 : tie.Need-bit-requires-3
 bit-requires-3 c κs = search needs
 
 mul-result-3 : tie.Need-mul-result-3
-mul-result-3 c = omega (arith, c .bit3 .ensures, bit-small (c .before .before .before .before .args .status .announced))
+mul-result-3 c = search needs
 
 add-result-2 : tie.Need-add-result-2
-add-result-2 c =
-    omega
-    (arith, c .before .before .bit .ensures, bit-small (c .before .before .before .before .args .status .utc), c .before .bit2 .ensures, bit-small (c .before .before .before .before .args .status .daylight), c .bit3 .ensures, bit-small (c .before .before .before .before .args .status .announced))
+add-result-2 c = search needs
 
 bit-requires-4 : tie.Need-bit-requires-4
 bit-requires-4 c κs = search needs
 
 add-result-3 : tie.Need-add-result-3
-add-result-3 c =
-    omega
-    (arith, c .before .before .before .bit .ensures, bit-small (c .before .before .before .before .before .args .status .utc), c .before .before .bit2 .ensures, bit-small (c .before .before .before .before .before .args .status .daylight), c .before .bit3 .ensures, bit-small (c .before .before .before .before .before .args .status .announced), c .bit4 .ensures, bit-small (eqb (c .before .before .before .before .reception-number .result) 1))
+add-result-3 c = search needs
 
 returns : tie.Need-returns
 unfolding statusOut5500
 returns c =
-    rw (c .before .before .before .bit .ensures, c .before .before .bit2 .ensures, c .before .bit3 .ensures, c .bit4 .ensures, c .before .before .before .before .reception-number .ensures)
+    rw (c .before .before .before .bit .ensures .0, c .before .before .bit2 .ensures .0, c .before .bit3 .ensures .0, c .bit4 .ensures .0, c .before .before .before .before .reception-number .ensures .0)
 
 pub status-out-5500-spec : {M : Type 1} → statement M
 status-out-5500-spec =

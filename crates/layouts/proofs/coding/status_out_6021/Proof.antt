@@ -1,7 +1,5 @@
 -- `layouts::coding::status_out_6021` meets its contract.
-use native.Mathlib.Omega.{arith}
 use Rattle.layouts.specs.Coding.{statusOut6021}
-use Rattle.layouts.proofs.Bits.{bit-small, reception-small}
 use borrow.Author.Needs.{needs}
 use Rattle.layouts.proofs.coding.status_out_6021.Statement.{statement}
 use Rattle.layouts.proofs.coding.status_out_6021.Tie as tie
@@ -10,30 +8,26 @@ reception-number-requires : tie.Need-reception-number-requires
 reception-number-requires c κs = search needs
 
 mul-result : tie.Need-mul-result
-mul-result c = omega (arith, c .reception-number .ensures, reception-small (c .before .args .status .reception))
+mul-result c = search needs
 
 bit-requires : tie.Need-bit-requires
 bit-requires c κs = search needs
 
 mul-result-2 : tie.Need-mul-result-2
-mul-result-2 c = omega (arith, c .bit .ensures, bit-small (c .before .before .args .status .daylight))
+mul-result-2 c = search needs
 
 add-result : tie.Need-add-result
-add-result c =
-    omega
-    (arith, c .before .reception-number .ensures, reception-small (c .before .before .args .status .reception), c .bit .ensures, bit-small (c .before .before .args .status .daylight))
+add-result c = search needs
 
 bit-requires-2 : tie.Need-bit-requires-2
 bit-requires-2 c κs = search needs
 
 add-result-2 : tie.Need-add-result-2
-add-result-2 c =
-    omega
-    (arith, c .before .before .reception-number .ensures, reception-small (c .before .before .before .args .status .reception), c .before .bit .ensures, bit-small (c .before .before .before .args .status .daylight), c .bit2 .ensures, bit-small (c .before .before .before .args .status .announced))
+add-result-2 c = search needs
 
 returns : tie.Need-returns
 unfolding statusOut6021
-returns c = rw (c .before .before .reception-number .ensures, c .before .bit .ensures, c .bit2 .ensures)
+returns c = rw (c .before .before .reception-number .ensures .0, c .before .bit .ensures .0, c .bit2 .ensures .0)
 
 pub status-out-6021-spec : {M : Type 1} → statement M
 status-out-6021-spec =

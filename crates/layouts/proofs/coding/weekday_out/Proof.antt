@@ -1,7 +1,5 @@
 -- `layouts::coding::weekday_out` meets its contract.
 use mathlib.Core.Path.{sym, _∙_}
-use native.Mathlib.Omega.{arith}
-use Rattle.layouts.proofs.Bits.{bit-small}
 use borrow.Author.Needs.{needs}
 use Rattle.layouts.proofs.coding.weekday_out.Statement.{statement}
 use Rattle.layouts.proofs.coding.weekday_out.Tie as tie
@@ -13,16 +11,16 @@ bit-requires : tie.Need-bit-requires
 bit-requires c κs = search needs
 
 mul-result : tie.Need-mul-result
-mul-result c = omega (arith, c .bit .ensures, bit-small (c .before .before .before .args .status .utc))
+mul-result c = search needs
 
 add-result : tie.Need-add-result
-add-result c = omega (arith, c .bit .ensures, bit-small (c .before .before .before .args .status .utc))
+add-result c = search needs
 
 returns : tie.Need-returns
-returns c = rw (sym (c .before .before .table-of-6021 .ensures) ∙ c .before .if1 .taken, c .bit .ensures)
+returns c = rw (sym (c .before .before .table-of-6021 .ensures) ∙ c .before .if1 .taken, c .bit .ensures .0)
 
 returns-2 : tie.Need-returns-2
-returns-2 c = rw (sym (c .before .table-of-6021 .ensures) ∙ c .if1 .left)
+returns-2 c = search needs
 
 pub weekday-out-spec : {M : Type 1} → statement M
 weekday-out-spec =
