@@ -6,9 +6,10 @@ use listing::RowAnswer;
 use refusals::STATE_ILL_FORMED;
 ghost use mathlib.Core.Path.{_≡_};
 ghost use Prim.Native.Nat.{min};
-ghost use Rattle.line.specs.Line.{freshReader, wellFormed, endReader};
+ghost use Rattle.line.specs.Line.{freshReader, endReader};
 ghost use Rattle.pages.specs.Pages.{pageOf};
-ghost use Rattle.printing.specs.Printing.{afterPiece, Handed, Printed};
+ghost use Rattle.printing.specs.declared.Output.the-variants.{Whole};
+ghost use Rattle.printing.specs.Printing.{afterPiece, printed};
 
 // How the output stands. Once it is not whole, nothing more is written.
 pub enum Output {
@@ -102,9 +103,9 @@ fn print_page(reader: Reader, piece: &[u8]) -> Sheet
     }
 }
 
-// Uses a piece up, page by page.
+// Uses a piece up, page by page. Where a write fails the reader comes back as it was.
 fn print_piece(reader: Reader, piece: &[u8]) -> Printer
-    ensures { λ r. ⌜ Handed (wellFormed reader) reader (afterPiece reader (now (piece .entry))) r ⌝ }
+    ensures { λ r. ⌜ r ≡ printed Whole reader (afterPiece reader (now (piece .entry))) (r .output) ⌝ }
 {
     if !reader.is_well_formed() {
         return Printer {
@@ -121,7 +122,7 @@ fn print_piece(reader: Reader, piece: &[u8]) -> Printer
         at += sheet.taken;
         if !sheet.is_written {
             return Printer {
-                reader: next,
+                reader: reader,
                 output: Output::Failed,
             };
         }
@@ -133,7 +134,7 @@ fn print_piece(reader: Reader, piece: &[u8]) -> Printer
 }
 
 fn print_end(reader: Reader) -> Printer
-    ensures { λ r. ⌜ Handed (wellFormed reader) reader (endReader reader .reader) r ⌝ }
+    ensures { λ r. ⌜ r ≡ printed Whole reader (endReader reader .reader) (r .output) ⌝ }
 {
     if !reader.is_well_formed() {
         return Printer {
@@ -144,9 +145,19 @@ fn print_end(reader: Reader) -> Printer
     let ended = reader.end();
     let next = ended.reader;
     let heard = ended.heard;
-    Printer {
-        reader: next,
-        output: print_last(heard, reader.stray),
+    match print_last(heard, reader.stray) {
+        Output::Whole => Printer {
+            reader: next,
+            output: Output::Whole,
+        },
+        Output::Failed => Printer {
+            reader: reader,
+            output: Output::Failed,
+        },
+        Output::Refused(number) => Printer {
+            reader: reader,
+            output: Output::Refused(number),
+        },
     }
 }
 
@@ -163,7 +174,7 @@ impl Printer {
 
     // Uses a piece up, and writes the rows of its events.
     pub fn piece(self, piece: &[u8]) -> Printer
-        ensures { λ r. ⌜ Printed (self .output) (self .reader) (afterPiece (self .reader) (now (piece .entry))) r ⌝ }
+        ensures { λ r. ⌜ r ≡ printed (self .output) (self .reader) (afterPiece (self .reader) (now (piece .entry))) (r .output) ⌝ }
     {
         let output = self.output;
         match output {
@@ -175,7 +186,7 @@ impl Printer {
 
     // Ends the line: the last event's row, if there is one, and the count of stray bytes are written.
     pub fn end(self) -> Printer
-        ensures { λ r. ⌜ Printed (self .output) (self .reader) (endReader (self .reader) .reader) r ⌝ }
+        ensures { λ r. ⌜ r ≡ printed (self .output) (self .reader) (endReader (self .reader) .reader) (r .output) ⌝ }
     {
         let output = self.output;
         match output {

@@ -1,7 +1,10 @@
 -- `printing::print_end` meets its contract.
 use borrow.Author.Needs.{needs}
 use borrow.Author.Tests.{not-true, not-false}
-use mathlib.Core.Path.{ap, sym, _∙_}
+use mathlib.Core.Path.{refl, ap, sym, _∙_}
+use Rattle.line.specs.Line.{endReader}
+use Rattle.printing.specs.declared.Output.the-variants as output
+use Rattle.printing.specs.declared.Printer.{Printer}
 use Rattle.printing.proofs.PrintedLaws.{is-refused, is-handed}
 use Rattle.printing.proofs.print_end.Statement.{statement}
 use Rattle.printing.proofs.print_end.Tie as tie
@@ -10,7 +13,7 @@ is-well-formed-requires : tie.Need-is-well-formed-requires
 is-well-formed-requires c κs = search needs
 
 returns : tie.Need-returns
-returns c = is-refused (c .before .before .args .reader) _ (sym (c .before .is-well-formed .ensures) ∙ not-true _ (c .if1 .taken))
+returns c = is-refused (c .before .before .args .reader) (endReader (c .before .before .args .reader) .reader) (output.Refused 15) (sym (c .before .is-well-formed .ensures) ∙ not-true _ (c .if1 .taken))
 
 end-requires : tie.Need-end-requires
 end-requires c κs = search needs
@@ -18,10 +21,37 @@ end-requires c κs = search needs
 print-last-requires : tie.Need-print-last-requires
 print-last-requires c κs = search needs
 
+enum-told : tie.Need-enum-told
+enum-told c = search needs
+
+enum-told-2 : tie.Need-enum-told-2
+enum-told-2 c = search needs
+
+enum-known-number : tie.Need-enum-known-number
+enum-known-number c = search needs
+
 returns-2 : tie.Need-returns-2
 returns-2 c =
-    is-handed (c .before .before .before .before .before .args .reader) _ _ (sym (c .before .before .before .before .is-well-formed .ensures) ∙ not-false _ (c .before .before .before .if1 .left))
-    (λ whole. ap (λ ended. ended .reader) (c .before .before .end .ensures))
+    is-handed (c .before .before .before .before .before .before .before .args .reader) (endReader (c .before .before .before .before .before .before .before .args .reader) .reader) output.Whole _ (sym (c .before .before .before .before .before .before .is-well-formed .ensures) ∙ not-false _ (c .before .before .before .before .before .if1 .left))
+    (ap (λ ended. record { reader = ended .reader; output = output.Whole }) (c .before .before .before .before .end .ensures))
+
+returns-3 : tie.Need-returns-3
+returns-3 c = is-handed (c .before .before .before .before .before .before .before .args .reader) (endReader (c .before .before .before .before .before .before .before .args .reader) .reader) output.Failed _ (sym (c .before .before .before .before .before .before .is-well-formed .ensures) ∙ not-false _ (c .before .before .before .before .before .if1 .left)) refl
+
+returns-4 : tie.Need-returns-4
+returns-4 c = is-handed (c .before .before .before .before .before .before .before .before .args .reader) (endReader (c .before .before .before .before .before .before .before .before .args .reader) .reader) (output.Refused (c .before .number .given .0 .0)) _ (sym (c .before .before .before .before .before .before .before .is-well-formed .ensures) ∙ not-false _ (c .before .before .before .before .before .before .if1 .left)) refl
 
 pub print-end-spec : {M : Type 1} → statement M
-print-end-spec = tie.close (tie.spec is-well-formed-requires returns end-requires print-last-requires returns-2)
+print-end-spec =
+    tie.close
+    (tie.spec
+    is-well-formed-requires
+    returns
+    end-requires
+    print-last-requires
+    enum-told
+    enum-told-2
+    enum-known-number
+    returns-2
+    returns-3
+    returns-4)

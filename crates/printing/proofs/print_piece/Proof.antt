@@ -2,10 +2,12 @@
 use native.Mathlib.Omega.{arith}
 use borrow.Author.Needs.{needs}
 use borrow.Author.Tests.{not-true, not-false}
-use mathlib.Core.Path.{_≡_, sym, _∙_}
-use Prim.Native.Nat.{ℕ, _-_, _≤_}
+use mathlib.Core.Path.{_≡_, refl, ap, sym, _∙_}
+use Prim.Native.Nat.{_-_, _≤_}
 use lib.ListN.{length, drop, length-map, drop-of-length-le}
 use Rattle.line.specs.Line.{places}
+use Rattle.printing.specs.declared.Output.the-variants as output
+use Rattle.printing.specs.declared.Printer.{Printer}
 use Rattle.printing.specs.Printing.{afterPiece}
 use Rattle.printing.proofs.PieceLaws.{Follows, begins, over, fits, turn, some-taken}
 use Rattle.printing.proofs.PrintedLaws.{is-refused, is-handed}
@@ -13,16 +15,16 @@ use Rattle.printing.proofs.print_piece.Statement.{statement}
 use Rattle.printing.proofs.print_piece.Tie as tie
 
 abbrev Inv-loop : tie.InvT-loop
-Inv-loop piece size next₀ at₀ next at = (at ≤ length piece) × Follows (afterPiece next₀ piece) next (drop at piece)
+Inv-loop reader piece size next₀ at₀ next at = (at ≤ length piece) × Follows (afterPiece reader piece) next (drop at piece)
 
 abbrev μ-loop : tie.MeasureT-loop
-μ-loop piece size next₀ at₀ next at = length piece - at
+μ-loop reader piece size next₀ at₀ next at = length piece - at
 
 is-well-formed-requires : tie.Need-is-well-formed-requires Inv-loop μ-loop
 is-well-formed-requires c κs = search needs
 
 returns : tie.Need-returns Inv-loop μ-loop
-returns c = is-refused (c .before .before .before .args .reader) _ (sym (c .before .is-well-formed .ensures) ∙ not-true _ (c .if1 .taken))
+returns c = is-refused (c .before .before .before .args .reader) (afterPiece (c .before .before .before .args .reader) (c .before .before .before .args .piece .now)) (output.Refused 15) (sym (c .before .is-well-formed .ensures) ∙ not-true _ (c .if1 .taken))
 
 loop-holds : tie.Need-loop-holds Inv-loop μ-loop
 loop-holds c =
@@ -47,9 +49,7 @@ add-at : tie.Need-add-at Inv-loop μ-loop
 add-at c = omega (arith, fits (afterPiece (c .before .before .before .before .before .before .before .before .before .args .reader) (c .before .before .before .before .before .before .before .before .before .args .piece .now)) (c .before .before .before .before .before .loop .next) (c .before .before .before .before .before .before .before .before .before .args .piece .now) (c .before .before .before .before .before .loop .at) (c .before .before .before .before .before .loop .inv .1) (c .before .before .print-page .result .reader) (c .before .before .print-page .result .taken) (c .before .before .print-page .ensures .0) (c .before .before .print-page .ensures .1) (c .before .before .before .before .before .loop .inv .0))
 
 returns-2 : tie.Need-returns-2 Inv-loop μ-loop
-returns-2 c =
-    is-handed (c .before .before .before .before .before .before .before .before .before .before .before .args .reader) _ _ (sym (c .before .before .before .before .before .before .before .before .before .is-well-formed .ensures) ∙ not-false _ (c .before .before .before .before .before .before .before .before .if1 .left))
-    (λ whole. let z : _≡_ {A = ℕ} 0 1 = cc in absurd (omega arith))
+returns-2 c = is-handed (c .before .before .before .before .before .before .before .before .before .before .before .args .reader) (afterPiece (c .before .before .before .before .before .before .before .before .before .before .before .args .reader) (c .before .before .before .before .before .before .before .before .before .before .before .args .piece .now)) output.Failed _ (sym (c .before .before .before .before .before .before .before .before .before .is-well-formed .ensures) ∙ not-false _ (c .before .before .before .before .before .before .before .before .if1 .left)) refl
 
 loop-less : tie.Need-loop-less Inv-loop μ-loop
 loop-less c =
@@ -69,8 +69,9 @@ returns-3 : tie.Need-returns-3 Inv-loop μ-loop
 returns-3 c =
     let a = c .before .before .before .before .before .args in
     let l = c .before .loop in
-    is-handed (a .reader) _ _ (sym (c .before .before .before .is-well-formed .ensures) ∙ not-false _ (c .before .before .if1 .left))
-    (λ whole. over (afterPiece (a .reader) (a .piece .now)) (l .next) (drop (l .at) (a .piece .now)) (drop-of-length-le (a .piece .now) {i = l .at} (omega (arith, l .inv .0))) (l .inv .1))
+    is-handed (a .reader) (afterPiece (a .reader) (a .piece .now)) output.Whole _ (sym (c .before .before .before .is-well-formed .ensures) ∙ not-false _ (c .before .before .if1 .left))
+    (ap (λ reader. record { reader = reader; output = output.Whole })
+    (over (afterPiece (a .reader) (a .piece .now)) (l .next) (drop (l .at) (a .piece .now)) (drop-of-length-le (a .piece .now) {i = l .at} (omega (arith, l .inv .0))) (l .inv .1)))
 
 pub print-piece-spec : {M : Type 1} → statement M
 print-piece-spec =
