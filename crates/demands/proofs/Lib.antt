@@ -8,3 +8,4 @@ pub mod Demand2Holds
 pub mod Demand3Holds
 pub mod BoundaryHolds
 pub mod ShutOut
+pub mod PrintedTablesHold

@@ -8,3 +8,4 @@ pub mod Demand3
 pub mod Programs
 pub mod Wrong
 pub mod Boundary
+pub mod PrintedTables

@@ -1,0 +1,30 @@
+-- The tables and examples as document 01 and the makers' manuals print them, in the document's order. Each is stated in literal rows
+-- in the crate whose definitions it pins (its file is specs/AsPrinted.antt), so that a swap made in definition and code together is
+-- refused there. This page names them all, to be held beside the documents.
+use Rattle.layouts.specs.AsPrinted.{TheTablesAreAsPrinted}
+use Rattle.record.specs.AsPrinted.{RecordsAreAsPrinted}
+use Rattle.calendar.specs.AsPrinted.{TheMonthStartsAreAsPrinted, TheCalendarIsAsPrinted}
+use Rattle.clock.specs.AsPrinted.{StepsAreAsPrinted}
+use Rattle.board.specs.AsPrinted.{The6036IsAsPrinted}
+use Rattle.listing.specs.AsPrinted.{TheListingIsAsPrinted}
+use Rattle.pages.specs.AsPrinted.{TheWholeListingIsAsPrinted}
+use Rattle.demands.specs.Boundary.{TheBoundaryTableHolds}
+
+abbrev pub AllIsAsPrinted : Type 0
+AllIsAsPrinted =
+    -- "The seven layouts": the status and weekday characters of each table, a telegram of each layout, the two-digit years
+    TheTablesAreAsPrinted
+    -- "The seven layouts", "Calendar, UTC and the station clock": what a record may say, its count and its UTC seconds in each season
+    × RecordsAreAsPrinted
+    -- "Calendar": 1,200 month starts, 0, 31, 60 and 36,494; printed dates, lengths of months, times
+    × TheMonthStartsAreAsPrinted
+    × TheCalendarIsAsPrinted
+    -- "The station clock": steps
+    × StepsAreAsPrinted
+    -- "6036 parameter byte": every row of the switch tables
+    × The6036IsAsPrinted
+    -- "Listing, whole": the header, the kinds, the words; then the whole example and the empty input
+    × TheListingIsAsPrinted
+    × TheWholeListingIsAsPrinted
+    -- "Boundary table"
+    × TheBoundaryTableHolds
