@@ -7,6 +7,7 @@ use native.Mathlib.Omega.{arith}
 use lib.Dec.{leb, eqb}
 use lib.ListN.{length, drop, replicate, length-append, length-replicate}
 use borrow.Author.Tests.{eqb-true}
+use Rattle.ascii.specs.Control.{stx, etx}
 use Rattle.refusals.specs.Refusals.{_when_, _else_, Outcome, done, refused, unless}
 use Rattle.refusals.proofs.Laws.{both}
 use Rattle.places.specs.Places.{fixedHolds, decimalHolds, codeHolds, every}
@@ -18,7 +19,7 @@ use Rattle.telegram.specs.Reading.{bodyOf, carried, readOf}
 use Rattle.telegram.proofs.Frames.{frame-is-framed}
 use Rattle.line.specs.declared.Reader.{Reader}
 use Rattle.line.specs.declared.Fed.{Fed}
-use Rattle.line.specs.Line.{Line, Told, nothing, event, Feeding, toldBy, toldByEnd, step, startOf, allPlain, isStarted, stopOr, feedOf, lineOf, readerOf, heardFor, fedFor, wellFormed, feedReader, endReader}
+use Rattle.line.specs.Line.{places, longest, Line, Told, nothing, event, Feeding, toldBy, toldByEnd, step, startOf, allPlain, isStarted, stopOr, feedOf, lineOf, readerOf, heardFor, fedFor, wellFormed, feedReader, endReader}
 use Rattle.line.specs.Pieces.{Passing, passOn, passing}
 use Rattle.line.proofs.ReaderLaws.{well, feed-refused, end-refused}
 use Rattle.line.proofs.StaysGood.{Good, started-stays, good-line, good-feed, reader-of-good}
@@ -90,7 +91,7 @@ judged body =
 
 byte-tells : (held : List ℕ) (byte : ℕ) → isStarted held ≡ true → Tells onTheLine (toldBy held byte)
 byte-tells [] byte started = tt
-byte-tells (first ∷ held) byte started = go (eqb byte 3) (eqb byte 2) (leb 24 (length (first ∷ held)))
+byte-tells (first ∷ held) byte started = go (eqb byte etx) (eqb byte stx) (leb places (length (first ∷ held)))
   where
     judged-so : (outcome : Outcome Record) → outcome doneOr inFrame → outcome doneOr onTheLine
     judged-so (done rec) e = tt
@@ -102,7 +103,7 @@ byte-tells (first ∷ held) byte started = go (eqb byte 3) (eqb byte 2) (leb 24 
     go : (etx stx full : Bool)
         → Tells onTheLine
         (cond etx (event (readOf true ((first ∷ held) ++ 3 ∷ [])) (length (first ∷ held) + 1))
-        (cond stx (event (refused 9) (length (first ∷ held))) (cond full (event (refused 10) 25) nothing)))
+        (cond stx (event (refused 9) (length (first ∷ held))) (cond full (event (refused 10) longest) nothing)))
     go true stx full = judged-so (readOf true ((first ∷ held) ++ 3 ∷ [])) whole
     go false true full = refl
     go false false true = refl
@@ -151,11 +152,11 @@ passes-on : (told : Told) (at : ℕ) (fed : Fed) (later : Passing) → Tells onT
 passes-on nothing at fed later e on = (refl, tt)
 passes-on (event outcome size) at fed later e on = (on .0, (heard onTheLine (event outcome size) at e, on .1))
 
-held-size : (line : Line) → Good line → length (readerOf line .held) ≡ 24
+held-size : (line : Line) → Good line → length (readerOf line .held) ≡ places
 held-size line good =
-    omega (arith, good .fits, length-append (line .held) (replicate (24 - length (line .held)) 0), length-replicate {A = ℕ} (24 - length (line .held)) 0)
+    omega (arith, good .fits, length-append (line .held) (replicate (places - length (line .held)) 0), length-replicate {A = ℕ} (24 - length (line .held)) 0)
 
-passes : (room : ℕ) (reader : Reader) (piece : List ℕ) → length (reader .held) ≡ 24 → wellFormed reader ≡ true → Passes (passing room reader piece)
+passes : (room : ℕ) (reader : Reader) (piece : List ℕ) → length (reader .held) ≡ places → wellFormed reader ≡ true → Passes (passing room reader piece)
 unfolding passing feedReader
 passes zero reader piece size well = (refl, tt)
 passes (suc room) reader piece size well =

@@ -28,6 +28,7 @@ use Rattle.line.specs.declared.Reader.{Reader}
 use Rattle.line.specs.declared.Heard.the-variants.{Refused}
 use Rattle.line.specs.Line.{wellFormed, AsDeclared, feedReader, endReader}
 use Rattle.line.specs.Pieces.{passing}
+use Rattle.line.specs.Pieces as pieces
 use Rattle.clock.specs.declared.Clock.{Clock}
 use Rattle.clock.specs.Stepping.{stepOf}
 use Rattle.clock.specs.Answers.{stepAnswer}
@@ -157,7 +158,7 @@ ARefusedStateComesBackUnchanged =
     (reader : Reader) (piece : List ℕ) → wellFormed reader ≡ false
     → (feedReader reader piece ≡ record { reader = reader; taken = 0; heard = Refused 15 })
     × (endReader reader ≡ record { reader = reader; heard = Refused 15 })
-    × (passing 32 reader piece ≡ record { events = []; taken = 0; reader = reader; refusal = 15 })
+    × (passing pieces.room reader piece ≡ record { events = []; taken = 0; reader = reader; refusal = 15 })
 
 -- "a refused .. clock comes back unchanged"
 abbrev pub ARefusedClockComesBackUnchanged : Type 0

@@ -15,7 +15,7 @@ use Rattle.pages.specs.Pages.{Page, pageOf}
 use Rattle.pages.proofs.PageLaws.{call-takes}
 use Rattle.pages.proofs.WholeLaws.{call-continues}
 use Rattle.pages.proofs.RoomLaws.{call-takes-some}
-use Rattle.printing.specs.Printing.{afterPiece}
+use Rattle.printing.specs.Printing.{pageRoom, afterPiece}
 
 -- a reader from which the rest of the piece leads to the whole piece's reader
 pub record Follows (whole reader : Reader) (rest : List ℕ) : Type 0 where
@@ -35,26 +35,26 @@ over whole reader rest none follows =
 
 -- one page, of the unread end of the piece
 module _ (whole reader : Reader) (piece : List ℕ) (at : ℕ) (follows : Follows whole reader (drop at piece))
-    (next : Reader) (taken : ℕ) (reads : next ≡ pageOf 4096 reader (take (length piece - at) (drop at piece)) .reader)
-    (takes : taken ≡ pageOf 4096 reader (take (length piece - at) (drop at piece)) .taken) where
+    (next : Reader) (taken : ℕ) (reads : next ≡ pageOf pageRoom reader (take (length piece - at) (drop at piece)) .reader)
+    (takes : taken ≡ pageOf pageRoom reader (take (length piece - at) (drop at piece)) .taken) where
   left : take (length piece - at) (drop at piece) ≡ drop at piece
   left = take-all (length piece - at) (drop at piece) (omega (arith, length-drop at piece))
 
   abbrev page : Page
-  page = pageOf 4096 (readerOf (follows .line)) (drop at piece)
+  page = pageOf pageRoom (readerOf (follows .line)) (drop at piece)
 
-  same : pageOf 4096 reader (take (length piece - at) (drop at piece)) ≡ page
-  same = ap (pageOf 4096 reader) left ∙ ap (λ r. pageOf 4096 r (drop at piece)) (follows .is)
+  same : pageOf pageRoom reader (take (length piece - at) (drop at piece)) ≡ page
+  same = ap (pageOf pageRoom reader) left ∙ ap (λ r. pageOf pageRoom r (drop at piece)) (follows .is)
 
   taken-is : taken ≡ page .taken
   taken-is = takes ∙ ap (λ p. p .taken) same
 
   pub fits : at ≤ length piece → at + taken ≤ length piece
-  fits inside = omega (arith, taken-is, call-takes 4096 (readerOf (follows .line)) (drop at piece), length-drop at piece)
+  fits inside = omega (arith, taken-is, call-takes pageRoom (readerOf (follows .line)) (drop at piece), length-drop at piece)
 
   pub turn : Follows whole next (drop (at + taken) piece)
   turn =
-      let on = call-continues 4096 (follows .line) (follows .good) (drop at piece) in
+      let on = call-continues pageRoom (follows .line) (follows .good) (drop at piece) in
       let rest : drop (page .taken) (drop at piece) ≡ drop (at + taken) piece = drop-drop (page .taken) at piece ∙ ap (λ n. drop (at + n) piece) (sym taken-is) in
       record {
         line = on .next;
@@ -63,9 +63,9 @@ module _ (whole reader : Reader) (piece : List ℕ) (at : ℕ) (follows : Follow
         ends = follows .ends ∙ ap readerOf (on .ends ∙ ap (lineAfter (on .next)) rest);
       }
 
-  some-by : (rest : List ℕ) → 0 < length rest → 0 < pageOf 4096 (readerOf (follows .line)) rest .taken
+  some-by : (rest : List ℕ) → 0 < length rest → 0 < pageOf pageRoom (readerOf (follows .line)) rest .taken
   some-by [] some = absurd (omega arith)
-  some-by (byte ∷ rest) some = call-takes-some 4096 (omega arith) (follows .line) (follows .good) byte rest
+  some-by (byte ∷ rest) some = call-takes-some pageRoom (omega arith) (follows .line) (follows .good) byte rest
 
   pub some-taken : at < length piece → 0 < taken
   some-taken more = omega (arith, taken-is, some-by (drop at piece) (omega (arith, length-drop at piece)))

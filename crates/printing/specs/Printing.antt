@@ -10,6 +10,10 @@ use Rattle.printing.specs.declared.Output.{Output}
 use Rattle.printing.specs.declared.Output.the-variants as output
 use Rattle.printing.specs.declared.Printer.{Printer}
 
+-- how many bytes of rows are handed on at once
+abbrev pub pageRoom : ℕ
+pageRoom = 4096
+
 -- the reader after a whole piece
 abbrev pub afterPiece : Reader → List ℕ → Reader
 afterPiece reader piece = readerOf (lineAfter (lineOf reader) piece)

@@ -2,6 +2,7 @@
 use libc::STDOUT_FILENO;
 use line::Heard;
 use line::Reader;
+use listing::LONGEST_ROW;
 use listing::RowAnswer;
 use refusals::STATE_ILL_FORMED;
 ghost use mathlib.Core.Path.{_≡_};
@@ -9,7 +10,7 @@ ghost use Prim.Native.Nat.{min};
 ghost use Rattle.line.specs.Line.{freshReader, endReader};
 ghost use Rattle.pages.specs.Pages.{pageOf};
 ghost use Rattle.printing.specs.declared.Output.the-variants.{Whole};
-ghost use Rattle.printing.specs.Printing.{afterPiece, printed};
+ghost use Rattle.printing.specs.Printing.{pageRoom, afterPiece, printed};
 
 // How the output stands. Once it is not whole, nothing more is written.
 pub enum Output {
@@ -28,9 +29,6 @@ pub struct Printer {
 
 // Room for the rows that are written at once.
 const PAGE: usize = 4096;
-
-// Room for a single row.
-const ROW: usize = 80;
 
 // What was taken of a piece, and whether its rows went out.
 struct Sheet {
@@ -67,20 +65,20 @@ fn print_row(made: RowAnswer, out: &[u8]) -> Output {
 }
 
 fn print_header() -> Output {
-    let mut out = [0u8; ROW];
+    let mut out = [0u8; LONGEST_ROW];
     let made = listing::rows::header(&mut out);
     print_row(made, &out)
 }
 
 fn print_stray(stray: u32) -> Output {
-    let mut out = [0u8; ROW];
+    let mut out = [0u8; LONGEST_ROW];
     let made = listing::rows::stray_line(stray, &mut out);
     print_row(made, &out)
 }
 
 // The last event's row, if there is one, and the line with the count of stray bytes.
 fn print_last(heard: Heard, stray: u32) -> Output {
-    let mut out = [0u8; ROW];
+    let mut out = [0u8; LONGEST_ROW];
     let made = pages::row_for(heard, &mut out);
     match print_row(made, &out) {
         Output::Whole => print_stray(stray),
@@ -91,7 +89,7 @@ fn print_last(heard: Heard, stray: u32) -> Output {
 
 // The rows of as much of a piece as one buffer takes.
 fn print_page(reader: Reader, piece: &[u8]) -> Sheet
-    ensures { λ r. ⌜ (r .reader ≡ pageOf 4096 reader (now (piece .entry)) .reader) × (r .taken ≡ pageOf 4096 reader (now (piece .entry)) .taken) ⌝ }
+    ensures { λ r. ⌜ (r .reader ≡ pageOf pageRoom reader (now (piece .entry)) .reader) × (r .taken ≡ pageOf pageRoom reader (now (piece .entry)) .taken) ⌝ }
 {
     let mut out = [0u8; PAGE];
     let listed = pages::list(reader, piece, &mut out);

@@ -5,6 +5,7 @@ use layouts::Layout;
 use libc::STDOUT_FILENO;
 use line::Heard;
 use line::Reader;
+use line::pieces::ROOM;
 use line::pieces::Slot;
 use record::DatedLayout;
 use record::Reception;
@@ -158,9 +159,9 @@ fn print_slot(slot: Slot) {
 }
 
 // The first so many of the events that were handed on.
-pub(crate) fn print_slots(slots: [Slot; 32], count: usize) {
+pub(crate) fn print_slots(slots: [Slot; ROOM], count: usize) {
     let mut at: usize = 0;
-    while at < 32 && at < count {
+    while at < ROOM && at < count {
         print_slot(slots[at]);
         at += 1;
     }

@@ -2,6 +2,7 @@
 use native.Mathlib.Omega.{arith}
 use borrow.Author.Needs.{needs}
 use Prim.Native.Nat.{_-_}
+use Rattle.line.specs.Pieces.{room}
 use Rattle.test_cases.proofs.outputs.print_slots.Statement.{statement}
 use Rattle.test_cases.proofs.outputs.print_slots.Tie as tie
 
@@ -9,7 +10,7 @@ abbrev Inv-loop : tie.InvT-loop
 Inv-loop count slots at₀ at = Unit {0}
 
 abbrev μ-loop : tie.MeasureT-loop
-μ-loop count slots at₀ at = 32 - at
+μ-loop count slots at₀ at = room - at
 
 loop-holds : tie.Need-loop-holds Inv-loop μ-loop
 loop-holds c = tt
