@@ -9,6 +9,7 @@ ghost use mathlib.Core.Path.{_≡_};
 ghost use Rattle.record.specs.Next.{nextSecondOf};
 ghost use Rattle.record.specs.Answers.{recordAnswer};
 
+// The record one second later. 5 to 8 where it is refused as it stands, 12 behind the calendar's last second.
 pub fn next_second(rec: Record) -> RecordAnswer
     ensures { λ r. ⌜ recordAnswer r ≡ nextSecondOf rec ⌝ }
 {

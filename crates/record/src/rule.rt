@@ -113,6 +113,7 @@ fn time_refusal(time: Time) -> u8
     }
 }
 
+// What the rule says of a record: 5, 6, 7, 8, or no refusal.
 pub fn refusal(rec: Record) -> u8
     ensures { λ r. ⌜ r ≡ refusalOf rec ⌝ }
 {

@@ -28,6 +28,7 @@ fn as_marked(utc: bool, seconds: u32) -> Count
     Count::Local(LocalSeconds(seconds))
 }
 
+// A dated record's seconds since 1 January 1980, 00:00, in its own time. 14 where it carries no date.
 pub fn count(rec: Record) -> CountAnswer
     ensures { λ r. ⌜ countAnswer r ≡ countOf rec ⌝ }
 {
@@ -59,6 +60,7 @@ fn in_utc(daylight: bool, counted: Count) -> UtcAnswer
     }
 }
 
+// A dated record's seconds in UTC. 12 before the calendar, 14 where it carries no date.
 pub fn utc_seconds(rec: Record) -> UtcAnswer
     ensures { λ r. ⌜ utcAnswer r ≡ utcSeconds rec ⌝ }
 {
