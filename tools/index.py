@@ -9,14 +9,14 @@ of each row names one thing or more, in backticks, and each must be there:
     crate::module::name          a function, a type or a constant
     crate/must-fail/label        a must-fail edit
     reference/file.name          a function or a table of the second implementation
-    path/of/a/file               a file, as a program's input crates/cases/stdin, a sample or a page
+    path/of/a/file               a file, as a program's input crates/test_cases/stdin, a sample or a page
 
 In docs/DOCUMENT-02.md a row may be `not yet` in its place.
 
 Of the pages in PROSE each path in backticks that begins with a folder of the tree, each path of a function and each theorem as
 `File.name` must be there.
 
-On any page a block of lines that names a file behind its language, as ```rust crates/cases/src/telegrams.rt, is a quotation: its
+On any page a block of lines that names a file behind its language, as ```rust crates/measured/src/main.rt, is a quotation: its
 lines stand in that file, one behind another, whatever their indentation. A line `..` in it stands for lines that are left out.
 """
 import re
@@ -25,7 +25,7 @@ import sys
 import tree
 
 TABLES = ["DOCUMENT-01.md", "DOCUMENT-02.md"]
-PROSE = ["USE.md", "HOW-TO-CHANGE.md"]
+PROSE = ["USE.md", "HOW-TO-CHANGE.md", "PROMISES.md", "DECISIONS.md"]
 NOT_YET = "not yet"
 NAME = re.compile(r"`([^`]+)`")
 DECLARED = re.compile(r"^(?:pub(?:\([\w:]+\))? )?(?:struct|enum|const|static|type) (\w+)", re.M)
