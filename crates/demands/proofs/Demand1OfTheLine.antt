@@ -154,7 +154,7 @@ passes-on (event outcome size) at fed later e on = (on .0, (heard onTheLine (eve
 
 held-size : (line : Line) → Good line → length (readerOf line .held) ≡ places
 held-size line good =
-    omega (arith, good .fits, length-append (line .held) (replicate (places - length (line .held)) 0), length-replicate {A = ℕ} (24 - length (line .held)) 0)
+    omega (arith, good .fits, length-append (line .held) (replicate (places - length (line .held)) 0), length-replicate {A = ℕ} (places - length (line .held)) 0)
 
 passes : (room : ℕ) (reader : Reader) (piece : List ℕ) → length (reader .held) ≡ places → wellFormed reader ≡ true → Passes (passing room reader piece)
 unfolding passing feedReader
