@@ -9,6 +9,8 @@ use lib.ListN.{length, take, drop, take-append-drop}
 use borrow.Author.Tests.{ltb-true, ltb-false, leb-true, leb-false, le-leb, lt-leb, eqb-true, eqb-false}
 use Rattle.refusals.specs.Refusals.{_when_, _else_, Outcome, done, refused, unless, after}
 use Rattle.refusals.proofs.Laws.{else-assoc}
+use Rattle.laying.specs.Laying.{laidIn}
+use Rattle.laying.proofs.LayingLaws.{refused-is-untouched}
 use Rattle.calendar.specs.Ranges.{inside}
 use Rattle.calendar.specs.Calendar.{dateInRange, dayExists, dateRefusal, monthInRange, monthLength, dayOf, dateAt, dayAfter, isLastDay, dayNumber, dateOf, nextDay}
 use Rattle.calendar.specs.TimeOfDay.{timeInRange, timeRefusal, secondsOf, timeAfter, isLastSecond, secondOfDay, nextSecond}
@@ -26,9 +28,8 @@ use Rattle.telegram.specs.declared.write.Choice.{Choice}
 use Rattle.telegram.specs.declared.write.Choice.the-variants.{Named, Unnamed}
 use Rattle.telegram.specs.declared.several.Several.{Several}
 use Rattle.telegram.specs.Reading.{bodyOf, carried, readOf}
-use Rattle.telegram.specs.Writing.{written, laidIn, oneMore, bufferAfter}
-use Rattle.telegram.proofs.SeveralLaws.{told-refused, ended-before, goes-in, goes-into}
-use Rattle.telegram.proofs.ReadsBack.{refused-is-untouched}
+use Rattle.telegram.specs.Writing.{telegramFor, written, oneMore, bufferAfter}
+use Rattle.telegram.proofs.SeveralLaws.{ended-before, goes-in, goes-into}
 use Rattle.clock.specs.Stepping.{stepOf}
 use Rattle.clock.specs.Answers.{stepAnswer}
 use Rattle.clock.proofs.StepLaws.{refused-is-unchanged}
@@ -108,7 +109,7 @@ pub demand-1-first-refusal : TheFirstRefusalEndsIt
 demand-1-first-refusal choice several rec buffer some = sym (ended-before choice several rec buffer some .0)
 
 pub demand-1-no-byte : ARefusedTelegramChangesNoByte
-demand-1-no-byte choice rec buffer n e = refused-is-untouched choice rec buffer n (told-refused (written choice rec (length buffer)) n e)
+demand-1-no-byte choice rec buffer n e = refused-is-untouched (telegramFor choice rec) buffer n e
 
 pub demand-1-no-byte-of-several : ARefusedOneMoreChangesNoByte
 demand-1-no-byte-of-several choice several rec buffer some = go (eqb (several .refusal) 0) refl

@@ -1,12 +1,14 @@
 -- Demand 1 holds of the rows of the listing. Assumes nothing.
 use mathlib.Core.Path.{_≡_, refl, ap, sym, _∙_}
 use mathlib.Core.Bool.{Bool, true, false, cond}
-use mathlib.Core.List.{List, [], _∷_, _++_}
-use Prim.Native.Nat.{ℕ}
-use native.Mathlib.Omega.{arith}
+use mathlib.Core.List.{List, [], _∷_}
+use Prim.Native.Nat.{ℕ, zero, suc}
 use lib.Dec.{ltb}
-use lib.ListN.{length, drop}
+use lib.ListN.{length}
 use Rattle.refusals.specs.Refusals.{_when_, Outcome, done, refused, unless, after}
+use Rattle.laying.specs.declared.Ending.the-variants as ending
+use Rattle.laying.specs.Laying.{sizeOf, laid}
+use Rattle.laying.proofs.LayingLaws.{within-unless, within-refused, laid-answer, refused-is-untouched}
 use Rattle.record.specs.declared.Record.the-variants.{Dated, TimeOnly}
 use Rattle.record.specs.declared.RecordAnswer.{RecordAnswer}
 use Rattle.record.specs.declared.RecordAnswer.the-variants as answer
@@ -16,8 +18,7 @@ use Rattle.line.specs.Line.{Line, wellFormed, lineOf}
 use Rattle.line.specs.Cuts.{eventsOf}
 use Rattle.line.proofs.ReaderLaws.{reader-back}
 use Rattle.line.proofs.StaysGood.{good-line}
-use Rattle.listing.specs.Listing.{headerRow, recordRow, refusedRow, eventRow, strayRow, laid}
-use Rattle.pages.specs.declared.Ending.the-variants as ending
+use Rattle.listing.specs.Listing.{headerRow, recordRow, refusedRow, eventRow, strayRow}
 use Rattle.pages.specs.Pages.{rowFor, pageOf}
 use Rattle.pages.specs.Whole.{rowsOf, endingIn}
 use Rattle.pages.proofs.PageLaws.{nothing-laid, refused-laid, page-refused}
@@ -32,16 +33,15 @@ use Rattle.demands.proofs.RulesHold.{record-rules}
 abbrev sized : List ℕ → List ℕ → Outcome ℕ
 sized buffer row = unless (13 when ltb (length buffer) (length row)) (length row)
 
-fits-or-not : (row buffer : List ℕ) (short : Bool)
-    → cond {A = Outcome ℕ × List ℕ} short (refused 13, buffer) (done (length row), row ++ drop (length row) buffer) .0 ≡ unless (13 when short) (length row)
+size-unless : (row : List ℕ) (n : ℕ) → sizeOf (unless n row) ≡ unless n (length row)
 unfolding unless
-fits-or-not row buffer true = refl
-fits-or-not row buffer false = refl
+size-unless row zero = refl
+size-unless row (suc n) = refl
 
 answer-so : (row : Outcome (List ℕ)) (buffer : List ℕ) → laid row buffer .0 ≡ after row (sized buffer)
-unfolding laid
-answer-so (done row) buffer = fits-or-not row buffer (ltb (length buffer) (length row))
-answer-so (refused n) buffer = refl
+answer-so (done row) buffer =
+    laid-answer (done row) buffer ∙ ap sizeOf (within-unless (length buffer) row) ∙ size-unless row (13 when ltb (length buffer) (length row))
+answer-so (refused n) buffer = laid-answer (refused n) buffer ∙ ap sizeOf (within-refused (length buffer) n)
 
 room-rule : (row buffer : List ℕ) → sized buffer row byFirst 13 givenWhen ltb (length buffer) (length row) ∷ []
 room-rule row buffer =
@@ -76,18 +76,7 @@ demand-1-row start told buffer =
     (row-tested start told (length buffer))
 
 pub demand-1-no-byte-of-a-row : ARefusedRowChangesNoByte
-unfolding laid
-demand-1-no-byte-of-a-row start told buffer n = go (eventRow start told)
-  where
-    laid-or-not : (row : List ℕ) (short : Bool)
-        → cond {A = Outcome ℕ × List ℕ} short (refused 13, buffer) (done (length row), row ++ drop (length row) buffer) .0 ≡ refused n
-        → cond {A = Outcome ℕ × List ℕ} short (refused 13, buffer) (done (length row), row ++ drop (length row) buffer) .1 ≡ buffer
-    laid-or-not row true e = refl
-    laid-or-not row false e = let z : _≡_ {A = ℕ} 0 1 = cc in absurd (omega arith)
-
-    go : (row : Outcome (List ℕ)) → laid row buffer .0 ≡ refused n → laid row buffer .1 ≡ buffer
-    go (done row) e = laid-or-not row (ltb (length buffer) (length row)) e
-    go (refused k) e = refl
+demand-1-no-byte-of-a-row start told buffer n e = refused-is-untouched (eventRow start told) buffer n e
 
 -- the row of what was heard
 pub demand-1-row-for : ARowForRefuses

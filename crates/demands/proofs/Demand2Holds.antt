@@ -5,8 +5,10 @@ use mathlib.Core.List.{List}
 use Prim.Native.Nat.{ℕ, zero, suc, _+_, _%_, _≤_}
 use native.Mathlib.Omega.{arith}
 use lib.ListN.{length}
-use Rattle.refusals.specs.Refusals.{Outcome, done, refused, unless, after}
+use Rattle.refusals.specs.Refusals.{done, unless, after}
 use Rattle.refusals.proofs.Laws.{does}
+use Rattle.laying.specs.Laying.{within, laidIn}
+use Rattle.laying.proofs.LayingLaws.{within-fits, within-done}
 use Rattle.places.specs.Places.{render}
 use Rattle.calendar.specs.TimeOfDay.{secondsOf, timeAfter, isLastSecond}
 use Rattle.calendar.proofs.Times.{Follows, good, seconds-within, time-after}
@@ -17,8 +19,8 @@ use Rattle.record.proofs.NextLaws.{next-is-later}
 use Rattle.telegram.specs.declared.write.Choice.{Choice}
 use Rattle.telegram.specs.declared.write.Choice.the-variants.{Unnamed}
 use Rattle.telegram.specs.Reading.{readOf}
-use Rattle.telegram.specs.Writing.{bodyBytes, telegramOf, as6021, recordToWrite, controlOf, laid, written, laidIn}
-use Rattle.telegram.proofs.WriteLaws.{room}
+use Rattle.telegram.specs.Writing.{bodyBytes, telegramOf, as6021, recordToWrite, telegramFor, written}
+use Rattle.telegram.proofs.WriteLaws.{telegram-made, was-made}
 use Rattle.telegram.proofs.BackAndForth.{written-reads-back, accepted-is-written}
 use Rattle.telegram.proofs.ReadsBack.{write-reads-back}
 use Rattle.demands.specs.Demand2.{Good, plain, advanced, ATelegramIsItsRow, ATelegramHasTheTablesLength, WrittenByTheTables, ReadByTheTables, TheReaderAcceptsExactlyWhatTheWriterCanMake, WhatIsWrittenReadsBack, WhatIsWrittenWithoutASettingReadsBack, WrittenWithAdvanceItReadsBackAsTheNextSecond, TheNextSecondIsOneLater, TheNextSecondOfADayIsOneLater}
@@ -33,8 +35,8 @@ demand-2-lengths control rec = telegram-length control rec
 
 written-so : (control : Bool) (rec : Record) (n : ℕ) → Good rec → length (telegramOf control rec) ≤ n
     → written (plain control) rec n ≡ done (telegramOf control rec)
-unfolding written
-written-so control rec n good fits = ap (λ o. after o (λ r. laid control r n)) (does rec good) ∙ room control rec n fits
+written-so control rec n good fits =
+    ap (within n) (telegram-made (plain control) rec control rec (does rec good) refl) ∙ within-fits n (telegramOf control rec) fits
 
 pub demand-2-written-by-the-tables : WrittenByTheTables
 demand-2-written-by-the-tables control rec buffer good fits =
@@ -49,13 +51,8 @@ demand-2-read-by-the-tables control bytes rec = (
 -- what is written was asked for: the record that the choice names is not refused
 was-asked : (choice : Choice) (rec : Record) (room : ℕ) (bytes : List ℕ) → written choice rec room ≡ done bytes
     → (same : Record) × (recordToWrite choice rec ≡ done same)
-unfolding written
-was-asked choice rec room bytes = go (recordToWrite choice rec) refl
-  where
-    go : (o : Outcome Record) → recordToWrite choice rec ≡ o → after o (λ r. laid (controlOf choice) r room) ≡ done bytes
-        → (same : Record) × (recordToWrite choice rec ≡ done same)
-    go (done same) is e = (same, is)
-    go (refused n) is e = let z : _≡_ {A = ℕ} 0 1 = cc in absurd (omega arith)
+was-asked choice rec room bytes e =
+    let made = was-made choice rec bytes (within-done room (telegramFor choice rec) bytes e .0) in (made .0, made .1)
 
 pub demand-2-accepts-exactly : TheReaderAcceptsExactlyWhatTheWriterCanMake
 demand-2-accepts-exactly control bytes = (

@@ -8,6 +8,8 @@ use lib.Dec.{ltb}
 use lib.ListN.{length}
 use Rattle.refusals.specs.Refusals.{_when_, _else_, Outcome, done, refused, unless, after}
 use Rattle.refusals.proofs.Laws.{else-assoc}
+use Rattle.laying.specs.Laying.{within}
+use Rattle.laying.proofs.LayingLaws.{within-unless, within-refused}
 use Rattle.places.specs.Places.{fixedHolds, decimalHolds, codeHolds, every}
 use Rattle.calendar.specs.Calendar.{dateInRange, dayExists, dayOf, dayAfter}
 use Rattle.calendar.specs.TimeOfDay.{timeInRange, timeRefusal, secondsOf, isLastSecond, timeAfter}
@@ -23,7 +25,7 @@ use Rattle.layouts.specs.Layouts.{placesOf, ownLayout, layoutOf}
 use Rattle.telegram.specs.declared.write.Choice.{Choice}
 use Rattle.telegram.specs.declared.write.Choice.the-variants.{Named, Unnamed}
 use Rattle.telegram.specs.Reading.{bodyOf, framed, carried, bodyRefusal, readOf}
-use Rattle.telegram.specs.Writing.{telegramOf, as6021, judgedOf, laid, written}
+use Rattle.telegram.specs.Writing.{telegramOf, as6021, judgedOf, recordToWrite, controlOf, telegramFor, written}
 use Rattle.clock.specs.declared.Clock.{Clock}
 use Rattle.clock.specs.Stepping.{stepOf}
 use Rattle.clock.specs.Answers.{stepAnswer}
@@ -100,13 +102,14 @@ next-layout (Dated layout status weekday date time) = go (isLastSecond time)
     go false = refl
 next-layout (TimeOnly layout time) = refl
 
-in-room : (control : Bool) (rec : Record) (room size : ℕ) → length (telegramOf control rec) ≡ size → laid control rec room byFirst 13 givenWhen ltb room size ∷ []
-unfolding laid
+in-room : (control : Bool) (rec : Record) (room size : ℕ) → length (telegramOf control rec) ≡ size
+    → within room (done (telegramOf control rec)) byFirst 13 givenWhen ltb room size ∷ []
 in-room control rec room size e =
-    unless-by _ (telegramOf control rec) (13 givenWhen ltb room size ∷ []) (ap (λ n. 13 when ltb room n) e ∙ sym (else-nothing (13 when ltb room size)))
+    ap (λ o. after o (λ v. done tt)) (within-unless room (telegramOf control rec))
+    ∙ unless-by _ (telegramOf control rec) (13 givenWhen ltb room size ∷ []) (ap (λ n. 13 when ltb room n) e ∙ sym (else-nothing (13 when ltb room size)))
 
 unnamed : (rec : Record) (room : ℕ)
-    → after (as6021 rec) (λ r. laid false r room) byFirst 13 givenWhen (carriesDate rec && ltb room 16) ∷ 14 givenWhen not (carriesDate rec) ∷ []
+    → after (as6021 rec) (λ r. within room (done (telegramOf false r))) byFirst 13 givenWhen (carriesDate rec && ltb room 16) ∷ 14 givenWhen not (carriesDate rec) ∷ []
 unfolding unless
 unnamed (Dated layout status weekday date time) room =
     in-room false (Dated L6021 status weekday date time) room 16 (telegram-length false (Dated L6021 status weekday date time))
@@ -117,9 +120,20 @@ after-both : {A B C : Type 0} (o : Outcome A) (f : A → Outcome B) (g : B → O
 after-both (done value) f g = refl
 after-both (refused n) f g = refl
 
+-- a telegram that is made is held to the room
+written-so : (choice : Choice) (rec : Record) (room : ℕ)
+    → written choice rec room ≡ after (recordToWrite choice rec) (λ r. within room (done (telegramOf (controlOf choice) r)))
+unfolding telegramFor
+written-so choice rec room = go (recordToWrite choice rec)
+  where
+    go : (o : Outcome Record)
+        → within room (after o (λ r. done (telegramOf (controlOf choice) r))) ≡ after o (λ r. within room (done (telegramOf (controlOf choice) r)))
+    go (done r) = refl
+    go (refused n) = within-refused room n
+
 pub writing-rules : (choice : Choice) (rec : Record) (room : ℕ) → written choice rec room byFirst writingRules choice rec room
-unfolding written nextSecondOf
-writing-rules (Named setting) rec room = go (setting .advance)
+unfolding nextSecondOf
+writing-rules (Named setting) rec room = ap (λ o. after o (λ v. done tt)) (written-so (Named setting) rec room) ∙ go (setting .advance)
   where
     control : Bool
     control = setting .control
@@ -128,7 +142,7 @@ writing-rules (Named setting) rec room = go (setting .advance)
     short = 13 givenWhen ltb room (lengthOf (setting .control) (ownLayout rec)) ∷ []
 
     lays : Record → Outcome (List ℕ)
-    lays r = laid (setting .control) r room
+    lays r = within room (done (telegramOf (setting .control) r))
 
     go : (advance : Bool) → after (cond advance (nextSecondOf rec) (judgedOf rec)) lays byFirst recordRules rec ++ 12 givenWhen (advance && isLastOfCalendar rec) ∷ short
     go true =
@@ -139,8 +153,8 @@ writing-rules (Named setting) rec room = go (setting .advance)
         then-by (refusalOf rec) rec lays (recordRules rec) (12 givenWhen false ∷ short) (record-rules rec)
         (in-room control rec room _ (telegram-length control rec))
 writing-rules Unnamed rec room =
-    ap (λ o. after o (λ v. done tt)) (after-both (judgedOf rec) as6021 (λ r. laid false r room))
-    ∙ then-by (refusalOf rec) rec (λ good. after (as6021 good) (λ r. laid false r room)) (recordRules rec) _ (record-rules rec) (unnamed rec room)
+    ap (λ o. after o (λ v. done tt)) (written-so Unnamed rec room ∙ after-both (judgedOf rec) as6021 (λ r. within room (done (telegramOf false r))))
+    ∙ then-by (refusalOf rec) rec (λ good. after (as6021 good) (λ r. within room (done (telegramOf false r)))) (recordRules rec) _ (record-rules rec) (unnamed rec room)
 
 -- a count of seconds, UTC seconds and the station clock
 no-date : (wrong : Bool) → refused (6 when wrong else 14) ≡ unless {A = Unit {0}} (6 when wrong else 14) tt

@@ -9,6 +9,7 @@ use Prim.Native.Nat.{ℕ, _-_}
 use lib.Dec.{leb}
 use lib.ListN.{length}
 use Rattle.refusals.specs.Refusals.{refused}
+use Rattle.laying.specs.Laying.{laid}
 use Rattle.calendar.specs.Calendar.{monthInRange, isLastDay, daysInMonth, dayNumber, dateOf, nextDay}
 use Rattle.calendar.specs.TimeOfDay.{timeInRange, secondOfDay, nextSecond}
 use Rattle.calendar.specs.declared.date.Date.{Date}
@@ -23,7 +24,7 @@ use Rattle.record.specs.Utc.{countOf, utcSeconds}
 use Rattle.telegram.specs.declared.write.Choice.{Choice}
 use Rattle.telegram.specs.declared.several.Several.{Several}
 use Rattle.telegram.specs.Reading.{readOf}
-use Rattle.telegram.specs.Writing.{written, sizeOf, laidIn, severalAfter, bufferAfter}
+use Rattle.telegram.specs.Writing.{telegramFor, written, severalAfter, bufferAfter}
 use Rattle.line.specs.declared.Reader.{Reader}
 use Rattle.line.specs.declared.Heard.the-variants.{Refused}
 use Rattle.line.specs.Line.{wellFormed, AsDeclared, feedReader, endReader}
@@ -143,8 +144,8 @@ TheCalendarRefuses =
 -- "A refused telegram changes no byte of the buffer;"
 abbrev pub ARefusedTelegramChangesNoByte : Type 0
 ARefusedTelegramChangesNoByte =
-    (choice : Choice) (rec : Record) (buffer : List ℕ) (n : ℕ) → sizeOf (written choice rec (length buffer)) ≡ refused n
-    → laidIn (written choice rec (length buffer)) buffer ≡ buffer
+    (choice : Choice) (rec : Record) (buffer : List ℕ) (n : ℕ) → laid (telegramFor choice rec) buffer .0 ≡ refused n
+    → laid (telegramFor choice rec) buffer .1 ≡ buffer
 
 -- nor among several, where the earlier ones stay as they are
 abbrev pub ARefusedOneMoreChangesNoByte : Type 0

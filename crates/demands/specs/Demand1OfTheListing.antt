@@ -6,6 +6,8 @@ use Prim.Native.Nat.{ℕ}
 use lib.Dec.{ltb}
 use lib.ListN.{length}
 use Rattle.refusals.specs.Refusals.{done, refused}
+use Rattle.laying.specs.declared.Ending.the-variants as ending
+use Rattle.laying.specs.Laying.{laid}
 use Rattle.record.specs.declared.RecordAnswer.{RecordAnswer}
 use Rattle.record.specs.declared.RecordAnswer.the-variants as answer
 use Rattle.line.specs.declared.Reader.{Reader}
@@ -13,8 +15,7 @@ use Rattle.line.specs.declared.Heard.{Heard}
 use Rattle.line.specs.declared.Heard.the-variants.{Nothing, Event, Refused}
 use Rattle.line.specs.Line.{wellFormed, lineOf, AsDeclared}
 use Rattle.line.specs.Cuts.{eventsOf}
-use Rattle.listing.specs.Listing.{headerRow, recordRow, refusedRow, eventRow, strayRow, laid}
-use Rattle.pages.specs.declared.Ending.the-variants as ending
+use Rattle.listing.specs.Listing.{headerRow, recordRow, refusedRow, eventRow, strayRow}
 use Rattle.pages.specs.Pages.{rowFor, stopped, pageOf}
 use Rattle.pages.specs.Whole.{rowsOf, endingIn}
 use Rattle.demands.specs.Numbers.{Rule, _givenWhen_, _refusedBy_, _doneOr_}

@@ -7,6 +7,7 @@ use mathlib.Core.Path.{_≡_}
 use Prim.Native.Nat.{ℕ, _+_, _%_, _≤_}
 use lib.ListN.{length, drop}
 use Rattle.refusals.specs.Refusals.{Outcome, done}
+use Rattle.laying.specs.Laying.{laidIn}
 use Rattle.places.specs.Places.{byteAt}
 use Rattle.calendar.specs.TimeOfDay.{secondsOf}
 use Rattle.calendar.specs.declared.time.Time.{Time}
@@ -22,7 +23,7 @@ use Rattle.layouts.specs.Layouts.{placesOf, ownLayout}
 use Rattle.layouts.specs.Coding.{digitsOut}
 use Rattle.telegram.specs.declared.write.Choice.{Choice}
 use Rattle.telegram.specs.declared.write.Choice.the-variants.{Named, Unnamed}
-use Rattle.telegram.specs.Writing.{telegramOf, as6021, controlOf, laidIn}
+use Rattle.telegram.specs.Writing.{telegramOf, as6021, controlOf}
 use Rattle.demands.specs.Programs.{reads, writes}
 use Rattle.demands.specs.Lengths.{lengthOf}
 

@@ -5,13 +5,9 @@ use Rattle.calendar.specs.Calendar.{isLeap, monthLength, monthInRange, dateInRa
 use Rattle.calendar.specs.TimeOfDay.{timeInRange, timeRefusal}
 use Rattle.record.specs.Rule.{plainUtc, tableCanSay, statusAllowed, weekdayAllowed, weekdayAgrees, datedRefusal}
 use Rattle.listing.specs.Decimals.{decimalWithin, decimal}
-use Rattle.listing.specs.Listing.{headerRow, statusColumn, datedRow, timeRow, refusedRow, strayRow, laid}
-use Rattle.listing.specs.AsPrinted.{TheListingIsAsPrinted, RowsAreLaidAsPrinted}
+use Rattle.listing.specs.Listing.{headerRow, statusColumn, datedRow, timeRow, refusedRow, strayRow}
+use Rattle.listing.specs.AsPrinted.{TheListingIsAsPrinted}
 
 pub listing-as-printed : TheListingIsAsPrinted
 unfolding unless isLeap monthLength monthInRange dateInRange dayExists monthStart dayOf timeInRange timeRefusal plainUtc tableCanSay statusAllowed weekdayAllowed weekdayAgrees datedRefusal decimalWithin decimal headerRow statusColumn datedRow timeRow refusedRow strayRow
 listing-as-printed = (refl, refl, refl)
-
-pub rows-laid-as-printed : RowsAreLaidAsPrinted
-unfolding laid
-rows-laid-as-printed = (refl, refl, refl, refl)

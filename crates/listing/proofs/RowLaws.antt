@@ -8,6 +8,8 @@ use lib.Dec.{lit≤}
 use lib.ListN.{length, length-append}
 use Rattle.refusals.specs.Refusals.{done, refused}
 use Rattle.refusals.proofs.Laws.{refuses, does}
+use Rattle.laying.specs.Laying.{laid}
+use Rattle.laying.proofs.LayingLaws.{laid-refused}
 use Rattle.calendar.specs.declared.date.Date.{Date}
 use Rattle.calendar.specs.declared.time.Time.{Time}
 use Rattle.record.specs.declared.DatedLayout.{DatedLayout}
@@ -23,7 +25,7 @@ use Rattle.record.specs.declared.RecordAnswer.the-variants as answer
 use Rattle.record.specs.Rule.{refusalOf}
 use Rattle.ascii.specs.Ascii.{ascii}
 use Rattle.listing.specs.Decimals.{decimal}
-use Rattle.listing.specs.Listing.{headerRow, datedKind, timeKind, receptionWord, seasonWord, statusColumn, datedRow, timeRow, recordRow, refusedRow, eventRow, strayRow, longestRow, laid}
+use Rattle.listing.specs.Listing.{headerRow, datedKind, timeKind, receptionWord, seasonWord, statusColumn, datedRow, timeRow, recordRow, refusedRow, eventRow, strayRow, longestRow}
 use Rattle.listing.proofs.DecimalLaws.{few-digits}
 
 dated-kind-length : (layout : DatedLayout) → length (datedKind layout) ≡ 4
@@ -91,8 +93,7 @@ module _ (start : ℕ) (counted : start < 2 ^ 32) where
 -- a record that the rule refuses has no row
 pub rule-refuses : (start : ℕ) (rec : Record) (out : List ℕ) (n : ℕ) → n ≡ refusalOf rec → (n ≡ 0 → ⊥)
     → laid (eventRow start (answer.Good rec)) out ≡ (refused n, out)
-unfolding laid
-rule-refuses start rec out n e some = rw (← refuses (recordRow start rec) e some)
+rule-refuses start rec out n e some = ap (λ o. laid o out) (sym (refuses (recordRow start rec) e some)) ∙ laid-refused n out
 
 -- and any other has the row of its layout
 pub rule-passes : (start : ℕ) (outcome : RecordAnswer) (rec same : Record) (n : ℕ) → outcome ≡ answer.Good rec → rec ≡ same

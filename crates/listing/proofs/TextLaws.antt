@@ -1,15 +1,17 @@
 -- Laws of a row in the making. Assumes nothing.
-use mathlib.Core.Path.{_≡_, refl, ap, sym, _∙_}
+use mathlib.Core.Path.{_≡_, refl, ap, ap₂, sym, _∙_}
 use mathlib.Core.List.{List, [], _∷_, _++_, append-nil}
 use Prim.Native.Nat.{ℕ, suc, _+_, _≤_, _<_}
 use native.Mathlib.Numerals.{add-one}
 use native.Mathlib.Omega.{arith}
 use lib.ListN.{length, take, drop, getD, set, length-set, length-append, drop-of-length-le}
 use lib.Seq.{take-suc, take-suc-set, drop-cons, set-at, length-take-le, append-snoc}
-use borrow.Author.Tests.{lt-ltb, le-ltb}
+use borrow.Author.Tests.{lt-ltb}
 use Rattle.refusals.specs.Refusals.{Outcome, done, refused}
+use Rattle.laying.specs.Laying.{laid}
+use Rattle.laying.proofs.LayingLaws.{laid-short, laid-fits}
 use Rattle.listing.specs.declared.Text.{Text}
-use Rattle.listing.specs.Listing.{longestRow, laid}
+use Rattle.listing.specs.Listing.{longestRow}
 use Rattle.listing.specs.Texts.{textRoom, emptyText, pushed, appended, contentOf}
 
 appended-twice : (text : Text) (xs ys : List ℕ) → appended text (xs ++ ys) ≡ appended (appended text xs) ys
@@ -97,10 +99,10 @@ module _ (text : Text) (out : List ℕ) (bound : length (text .bytes) ≡ textRo
   size = length-take-le (text .len) (text .bytes) (omega arith)
 
   pub no-room : length out < text .len → laid (done (contentOf text)) out ≡ (refused 13, out)
-  unfolding laid
-  no-room short = rw (size, lt-ltb _ _ short)
+  no-room short = laid-short (contentOf text) out (omega (arith, size))
 
   pub all-laid : (last : List ℕ) (at : ℕ) → text .len ≤ length out → at ≡ text .len → last ≡ take at (text .bytes) ++ drop at out
       → laid (done (contentOf text)) out ≡ (done (text .len), last)
-  unfolding laid
-  all-laid last at fits end e = rw (size, le-ltb _ _ fits, e, end)
+  all-laid last at fits end e =
+      laid-fits (contentOf text) out (omega (arith, size))
+      ∙ ap₂ (λ n l. (done n, l)) size (ap (λ n. contentOf text ++ drop n out) size ∙ sym (e ∙ ap (λ n. take n (text .bytes) ++ drop n out) end))

@@ -1,4 +1,4 @@
--- Document 01, "Listing, whole": its lines as text, and the one statement over them; and how a row is laid into a buffer.
+-- Document 01, "Listing, whole": its lines as text, and the one statement over them.
 use mathlib.Core.Path.{_≡_}
 use mathlib.Core.Bool.{Bool, true, false}
 use mathlib.Core.List.{List, [], _∷_, _++_, map}
@@ -17,7 +17,7 @@ use Rattle.record.specs.declared.Record.the-variants.{Dated, TimeOnly}
 use Rattle.record.specs.declared.RecordAnswer.{RecordAnswer}
 use Rattle.record.specs.declared.RecordAnswer.the-variants.{Good, Refused}
 use Rattle.ascii.specs.Ascii.{ascii}
-use Rattle.listing.specs.Listing.{headerRow, eventRow, strayRow, longestRow, laid}
+use Rattle.listing.specs.Listing.{headerRow, eventRow, strayRow, longestRow}
 
 -- a line of the listing: the header, an event by its start and answer, the count of stray bytes
 pub data Line : Type 0 where
@@ -84,12 +84,3 @@ TheListingIsAsPrinted =
     × (length (line longest) ≡ longestRow)
     -- a record that no telegram could carry: the first on a Thursday
     × (made (event 1 (april L6021 (status High true false false) 4)) ≡ refused 8)
-
--- "the lent buffer is shorter than what is to be written", "a refused write leaves the buffer untouched; a successful one changes
--- only" its own bytes: a row of two bytes where there is room to spare, just room enough, and a byte too few; and a row that is refused
-abbrev pub RowsAreLaidAsPrinted : Type 0
-RowsAreLaidAsPrinted =
-    (laid (done (7 ∷ 8 ∷ [])) (1 ∷ 2 ∷ 3 ∷ []) ≡ (done 2, 7 ∷ 8 ∷ 3 ∷ []))
-    × (laid (done (7 ∷ 8 ∷ [])) (1 ∷ 2 ∷ []) ≡ (done 2, 7 ∷ 8 ∷ []))
-    × (laid (done (7 ∷ 8 ∷ [])) (1 ∷ []) ≡ (refused 13, 1 ∷ []))
-    × (laid (refused 8) (1 ∷ 2 ∷ 3 ∷ []) ≡ (refused 8, 1 ∷ 2 ∷ 3 ∷ []))

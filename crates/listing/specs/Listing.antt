@@ -2,9 +2,7 @@
 use mathlib.Core.Bool.{Bool, cond}
 use mathlib.Core.List.{List, [], _∷_, _++_}
 use Prim.Native.Nat.{ℕ}
-use lib.Dec.{ltb}
-use lib.ListN.{length, drop}
-use Rattle.refusals.specs.Refusals.{Outcome, done, refused, unless}
+use Rattle.refusals.specs.Refusals.{Outcome, done, unless}
 use Rattle.calendar.specs.declared.date.Date.{Date}
 use Rattle.calendar.specs.declared.time.Time.{Time}
 use Rattle.record.specs.declared.DatedLayout.{DatedLayout}
@@ -100,10 +98,3 @@ strayRow stray = ascii "stray " ++ decimal stray ++ ascii "\n"
 -- no row is longer
 abbrev pub longestRow : ℕ
 longestRow = 69
-
--- a row laid into a buffer: the answer, and the buffer behind it. 13: "the lent buffer is shorter than what is to be written"; "a
--- refused write leaves the buffer untouched; a successful one changes only" the row's own bytes
-unfoldable pub laid : Outcome (List ℕ) → List ℕ → Outcome ℕ × List ℕ
-laid (refused n) buffer = (refused n, buffer)
-laid (done row) buffer =
-    cond (ltb (length buffer) (length row)) (refused 13, buffer) (done (length row), row ++ drop (length row) buffer)

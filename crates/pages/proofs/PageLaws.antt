@@ -5,12 +5,13 @@ use mathlib.Core.List.{List, [], _∷_, _++_, append-assoc, append-nil}
 use Prim.Native.Nat.{ℕ, zero, suc, _+_, _-_, _≤_, _<_}
 use native.Mathlib.Nat.{add-zero, zero-add}
 use native.Mathlib.Omega.{arith}
-use lib.Dec.{ltb}
 use lib.ListN.{length, take, drop, length-append, length-drop, take-append-drop, drop-of-length-le}
 use lib.Seq.{take-all, drop-drop, length-take-le, take-at, drop-at}
-use borrow.Author.Tests.{le-ltb, ltb-false}
 use borrow.Rule.Slice.PartMut.{putMid}
 use Rattle.refusals.specs.Refusals.{Outcome, done, refused}
+use Rattle.laying.specs.Laying.{within, laid}
+use Rattle.laying.proofs.LayingLaws.{within-done, laid-fits, laid-refused, stands, stops}
+use Rattle.laying.proofs.TailLaws.{tail-back}
 use Rattle.line.specs.declared.Reader.{Reader}
 use Rattle.line.specs.declared.Fed.{Fed}
 use Rattle.line.specs.declared.Heard.{Heard}
@@ -18,66 +19,16 @@ use Rattle.line.specs.declared.Heard.the-variants.{Nothing, Refused}
 use Rattle.line.specs.Line.{wellFormed, feedReader, feedOf, lineOf, fedFor, toldBy, startOf, step}
 use Rattle.line.proofs.PieceLaws.{feed-fits}
 use Rattle.line.proofs.CutLaws.{some-by}
-use Rattle.listing.specs.Listing.{laid}
-use Rattle.telegram.proofs.SeveralLaws.{tail-back}
-use Rattle.pages.specs.declared.Ending.{Ending}
-use Rattle.pages.specs.declared.Ending.the-variants as ending
-use Rattle.pages.specs.Pages.{rowFor, within, Page, stopped, rowThen, pageBy, pageOf, listedFor}
-
--- what is laid is the row, where it fits
-abbrev laidAs : Outcome (List ℕ) → List ℕ → Outcome ℕ × List ℕ
-laidAs (done row) buffer = (done (length row), row ++ drop (length row) buffer)
-laidAs (refused number) buffer = (refused number, buffer)
-
-fits-or-not : (row buffer : List ℕ) (short : Bool)
-    → cond short (refused 13, buffer) (done (length row), row ++ drop (length row) buffer) ≡ laidAs (cond short (refused 13) (done row)) buffer
-fits-or-not row buffer true = refl
-fits-or-not row buffer false = refl
-
-laid-within : (outcome : Outcome (List ℕ)) (buffer : List ℕ) → laid outcome buffer ≡ laidAs (within (length buffer) outcome) buffer
-unfolding laid
-laid-within (done row) buffer = fits-or-not row buffer (ltb (length buffer) (length row))
-laid-within (refused number) buffer = refl
+use Rattle.laying.specs.declared.Ending.{Ending}
+use Rattle.laying.specs.declared.Ending.the-variants as ending
+use Rattle.pages.specs.Pages.{rowFor, Page, stopped, rowThen, pageBy, pageOf, listedFor}
 
 -- what has no row is not laid
 pub nothing-laid : {heard : Heard} (buffer : List ℕ) → heard ≡ Nothing → laid (rowFor heard) buffer ≡ (done 0, buffer)
-nothing-laid buffer is =
-    ap (λ heard. laid (rowFor heard) buffer) is
-    ∙ laid-within (done []) buffer
-    ∙ ap (λ short. laidAs (cond short (refused 13) (done [])) buffer) (le-ltb (length buffer) 0 (omega arith))
+nothing-laid buffer is = ap (λ heard. laid (rowFor heard) buffer) is ∙ laid-fits [] buffer (omega arith)
 
 pub refused-laid : {heard : Heard} {number : ℕ} (buffer : List ℕ) → heard ≡ Refused number → laid (rowFor heard) buffer ≡ (refused number, buffer)
-refused-laid {number = number} buffer is = ap (λ heard. laid (rowFor heard) buffer) is ∙ laid-within (refused number) buffer
-
--- what the answer says of the row
-record Stands (outcome : Outcome (List ℕ)) (buffer : List ℕ) (n : ℕ) (last : List ℕ) : Type 0 where
-  row : List ℕ
-  is-done : outcome ≡ done row
-  size : length row ≡ n
-  laid-is : last ≡ row ++ drop n buffer
-
-stands-as : (outcome : Outcome (List ℕ)) (buffer : List ℕ) (n : ℕ) (last : List ℕ) → laidAs outcome buffer ≡ (done n, last) → Stands outcome buffer n last
-stands-as (done row) buffer n last e =
-    let told : done (length row) ≡ done n = ap (λ p. p .0) e in
-    let size : length row ≡ n = cc in
-    record { row = row; is-done = refl; size = size; laid-is = sym (ap (λ p. p .1) e) ∙ ap (λ k. row ++ drop k buffer) size }
-stands-as (refused number) buffer n last e = let told : refused number ≡ done n = ap (λ p. p .0) e in let z : _≡_ {A = ℕ} 0 1 = cc in absurd (omega arith)
-
-stops-as : (outcome : Outcome (List ℕ)) (buffer : List ℕ) (n : ℕ) (last : List ℕ) → laidAs outcome buffer ≡ (refused n, last)
-    → (outcome ≡ refused n) × (last ≡ buffer)
-stops-as (done row) buffer n last e = let told : done (length row) ≡ refused n = ap (λ p. p .0) e in let z : _≡_ {A = ℕ} 0 1 = cc in absurd (omega arith)
-stops-as (refused number) buffer n last e =
-    let told : _≡_ {A = Outcome ℕ} (refused number) (refused n) = ap (λ p. p .0) e in
-    let same : number ≡ n = cc in
-    (ap refused same, sym (ap (λ p. p .1) e))
-
-within-fits : (outcome : Outcome (List ℕ)) (room : ℕ) (row : List ℕ) → within room outcome ≡ done row → length row ≤ room
-within-fits (done made) room row e = go (ltb room (length made)) refl e
-  where
-    go : (t : Bool) → ltb room (length made) ≡ t → cond t (refused 13) (done made) ≡ done row → length row ≤ room
-    go true short e = let z : _≡_ {A = ℕ} 0 1 = cc in absurd (omega arith)
-    go false fits e = let same : length made ≡ length row = cc in omega (arith, ltb-false room (length made) fits, same)
-within-fits (refused number) room row e = let z : _≡_ {A = ℕ} 0 1 = cc in absurd (omega arith)
+refused-laid {number = number} buffer is = ap (λ heard. laid (rowFor heard) buffer) is ∙ laid-refused number buffer
 
 -- a piece that has a byte is fed, and what is heard of it goes first
 pub page-some : (calls room : ℕ) (reader : Reader) (piece : List ℕ) → 0 < length piece
@@ -94,7 +45,7 @@ took-by : (reader : Reader) (byte : ℕ) (piece : List ℕ) (room : ℕ) (row : 
     within room (rowFor (fed .heard)) ≡ done row → 0 < fed .taken
 took-by reader byte piece room row true e =
     some-by (toldBy (lineOf reader .held) byte) (startOf (lineOf reader)) (step (lineOf reader) byte) (feedOf (step (lineOf reader) byte) piece)
-took-by reader byte piece room row false e = let z : _≡_ {A = ℕ} 0 1 = cc in absurd (omega arith)
+took-by reader byte piece room row false e = let none = within-done room (refused 15) row e .0 in let z : _≡_ {A = ℕ} 0 1 = cc in absurd (omega arith)
 
 pub took-some : (reader : Reader) (piece : List ℕ) (room : ℕ) (row : List ℕ) → 0 < length piece
     → within room (rowFor (feedReader reader piece .heard)) ≡ done row → 0 < feedReader reader piece .taken
@@ -148,12 +99,11 @@ module _ (whole : Page) (piece start out : List ℕ) (reader : Reader) (taken us
   room : length (drop used out) ≡ length start - used
   room = length-drop used out ∙ ap (λ n. n - used) (holds .size)
 
-  answered : laidAs (within (length start - used) (rowFor (fed .heard))) (drop used out) ≡ (answer, last)
-  answered =
-      ap (λ n. laidAs (within n (rowFor (fed .heard))) (drop used out)) (sym room)
-      ∙ sym (laid-within (rowFor (fed .heard)) (drop used out))
-      ∙ ap (laid (rowFor (fed .heard))) (sym lent)
-      ∙ told
+  answered : laid (rowFor (fed .heard)) (drop used out) ≡ (answer, last)
+  answered = ap (laid (rowFor (fed .heard))) (sym lent) ∙ told
+
+  in-room : within (length start - used) (rowFor (fed .heard)) ≡ within (length (drop used out)) (rowFor (fed .heard))
+  in-room = ap (λ n. within n (rowFor (fed .heard))) (sym room)
 
   back : putMid used (length out - used) out last ≡ take used out ++ last
   back = tail-back used out used last (omega (arith, holds .fits))
@@ -189,35 +139,36 @@ module _ (whole : Page) (piece start out : List ℕ) (reader : Reader) (taken us
   pub row-stands : (n : ℕ) → answer ≡ done n
       → Holds whole piece start (putMid used (length out - used) out last) (fed .reader) (taken + fed .taken) (used + n) × (0 < fed .taken)
   row-stands n is =
-      let row = stands-as (within (length start - used) (rowFor (fed .heard))) (drop used out) n last (answered ∙ ap (λ a. (a, last)) is) in
-      let fits : length (row .row) ≤ length start - used = within-fits (rowFor (fed .heard)) (length start - used) (row .row) (row .is-done) in
+      let row = stands (rowFor (fed .heard)) (drop used out) n last (answered ∙ ap (λ a. (a, last)) is) in
+      let is-done = in-room ∙ row .is-laid in
+      let fits : length (row .bytes) ≤ length start - used = within-done (length start - used) (rowFor (fed .heard)) (row .bytes) is-done .1 in
       let took : 0 < fed .taken =
-      omega (arith, ap (λ f. f .taken) fed-is, took-some reader (drop taken piece) (length start - used) (row .row) some (ap (λ f. within (length start - used) (rowFor (f .heard))) (sym fed-is) ∙ row .is-done)) in
-      let front : length (take used out ++ row .row) ≡ used + n =
-      length-append (take used out) (row .row) ∙ ap₂ _+_ (length-take-le used out (holds .fits)) (row .size) in
+      omega (arith, ap (λ f. f .taken) fed-is, took-some reader (drop taken piece) (length start - used) (row .bytes) some (ap (λ f. within (length start - used) (rowFor (f .heard))) (sym fed-is) ∙ is-done)) in
+      let front : length (take used out ++ row .bytes) ≡ used + n =
+      length-append (take used out) (row .bytes) ∙ ap₂ _+_ (length-take-le used out (holds .fits)) (row .size) in
       let behind-it : drop n (drop used out) ≡ drop (used + n) start =
       ap (drop n) (holds .rest) ∙ drop-drop n used start in
-      let now : putMid used (length out - used) out last ≡ (take used out ++ row .row) ++ drop (used + n) start =
-      back ∙ ap (_++_ (take used out)) (row .laid-is ∙ ap (_++_ (row .row)) behind-it) ∙ sym (append-assoc (take used out) (row .row) (drop (used + n) start)) in
+      let now : putMid used (length out - used) out last ≡ (take used out ++ row .bytes) ++ drop (used + n) start =
+      back ∙ ap (_++_ (take used out)) (row .last-is ∙ ap (_++_ (row .bytes)) behind-it) ∙ sym (append-assoc (take used out) (row .bytes) (drop (used + n) start)) in
       let all : length (putMid used (length out - used) out last) ≡ length start =
-      ap length now ∙ length-append (take used out ++ row .row) (drop (used + n) start)
+      ap length now ∙ length-append (take used out ++ row .bytes) (drop (used + n) start)
       ∙ omega (arith, front, length-drop (used + n) start, fits, row .size, holds .fits, holds .size) in
-      let less-room : length start - used - length (row .row) ≡ length start - (used + n) = omega (arith, row .size) in
+      let less-room : length start - used - length (row .bytes) ≡ length start - (used + n) = omega (arith, row .size) in
       let page = pageBy (less .calls) (length start - (used + n)) (fed .reader) (drop (taken + fed .taken) piece) in
       let sum : taken + (fed .taken + page .taken) ≡ taken + fed .taken + page .taken = omega arith in (
         record {
           fits = omega (arith, all, fits, row .size, holds .fits, holds .size);
           size = all;
-          rest = ap (drop (used + n)) now ∙ drop-at (take used out ++ row .row) (drop (used + n) start) (used + n) front;
+          rest = ap (drop (used + n)) now ∙ drop-at (take used out ++ row .bytes) (drop (used + n) start) (used + n) front;
           inside = took-fits;
           calls = less .calls;
           enough = omega (arith, holds .enough, less .is, took);
           so-far =
               holds .so-far
-              ∙ ap (behind (take used out) taken) (next-is ∙ ap (λ outcome. rowThen outcome reader fed later) (row .is-done))
-              ∙ ap (λ room. behind (take used out) taken (behind (row .row) (fed .taken) (pageBy (less .calls) room (fed .reader) (drop (taken + fed .taken) piece)))) less-room
-              ∙ (λ i. record { bytes = sym (append-assoc (take used out) (row .row) (page .bytes)) i; taken = sum i; reader = page .reader; ending = page .ending })
-              ∙ ap (λ bytes. behind bytes (taken + fed .taken) page) (sym (ap (take (used + n)) now ∙ take-at (take used out ++ row .row) (drop (used + n) start) (used + n) front));
+              ∙ ap (behind (take used out) taken) (next-is ∙ ap (λ outcome. rowThen outcome reader fed later) (is-done))
+              ∙ ap (λ room. behind (take used out) taken (behind (row .bytes) (fed .taken) (pageBy (less .calls) room (fed .reader) (drop (taken + fed .taken) piece)))) less-room
+              ∙ (λ i. record { bytes = sym (append-assoc (take used out) (row .bytes) (page .bytes)) i; taken = sum i; reader = page .reader; ending = page .ending })
+              ∙ ap (λ bytes. behind bytes (taken + fed .taken) page) (sym (ap (take (used + n)) now ∙ take-at (take used out ++ row .bytes) (drop (used + n) start) (used + n) front));
         },
         took,
       )
@@ -226,12 +177,12 @@ module _ (whole : Page) (piece start out : List ℕ) (reader : Reader) (taken us
       → (record { reader = reader; taken = taken; used = used; ending = ending.Refused n } ≡ listedFor whole)
       × (putMid used (length out - used) out last ≡ whole .bytes ++ drop used start)
   row-stops n is =
-      let stops = stops-as (within (length start - used) (rowFor (fed .heard))) (drop used out) n last (answered ∙ ap (λ a. (a, last)) is) in
+      let stopped = stops (rowFor (fed .heard)) (drop used out) n last (answered ∙ ap (λ a. (a, last)) is) in
       let whole-is : whole ≡ record { bytes = take used out ++ []; taken = taken + 0; reader = reader; ending = ending.Refused n } =
-      holds .so-far ∙ ap (behind (take used out) taken) (next-is ∙ ap (λ outcome. rowThen outcome reader fed later) (stops .0)) in
+      holds .so-far ∙ ap (behind (take used out) taken) (next-is ∙ ap (λ outcome. rowThen outcome reader fed later) (in-room ∙ stopped .0)) in
       let size : used ≡ length (take used out ++ []) = sym (ap length (append-nil (take used out)) ∙ length-take-le used out (holds .fits)) in (
         (λ i. record { reader = reader; taken = sym (add-zero taken) i; used = size i; ending = ending.Refused n }) ∙ ap listedFor (sym whole-is),
-        back ∙ ap₂ _++_ (sym (ap (λ page. page .bytes) whole-is ∙ append-nil (take used out))) (stops .1 ∙ holds .rest),
+        back ∙ ap₂ _++_ (sym (ap (λ page. page .bytes) whole-is ∙ append-nil (take used out))) (stopped .1 ∙ holds .rest),
       )
 
 page-none : (calls room : ℕ) (reader : Reader) → pageBy calls room reader [] ≡ stopped reader ending.Whole

@@ -20,9 +20,11 @@ use Rattle.line.specs.Cuts.{eventsOf}
 use Rattle.line.proofs.StaysGood.{Good, good-feed, feed-good, reader-of-good}
 use Rattle.line.proofs.CutLaws.{feed-parts, some-by, shorter, good-fresh}
 use Rattle.listing.proofs.RowLaws.{dated-short, time-short, refused-short}
-use Rattle.pages.specs.declared.Ending.{Ending}
-use Rattle.pages.specs.declared.Ending.the-variants as ending
-use Rattle.pages.specs.Pages.{rowFor, within, Page, rowThen, pageBy, pageOf}
+use Rattle.laying.specs.Laying.{within}
+use Rattle.laying.proofs.LayingLaws.{within-cases, within-fits}
+use Rattle.laying.specs.declared.Ending.{Ending}
+use Rattle.laying.specs.declared.Ending.the-variants as ending
+use Rattle.pages.specs.Pages.{rowFor, Page, rowThen, pageBy, pageOf}
 use Rattle.pages.specs.Whole.{rowOfEvent, rowsOf, turnsWith, lentWith, AllListed, EveryCutCanBeListed, endingIn}
 use Rattle.pages.proofs.PageLaws.{page-good}
 use Rattle.pages.proofs.WholeLaws.{Sound, sound-feed, row-told, rows-then, GoesOn, call-continues, turns-continue}
@@ -65,6 +67,7 @@ page-ends-by-room (suc calls) room line good (byte ∷ piece) enough =
     let short = ltb room (length row) in
     ap (λ fed. rowThen (within room (rowFor (fed .heard))) (readerOf line) fed (λ size. pageBy calls (room - size) (fed .reader) (drop (fed .taken) whole)) .ending) (feed-good line good whole)
     ∙ ap (λ outcome. rowThen (within room outcome) (readerOf line) (fedFor feeding) later .ending) (row-told (feeding .told) (feeding .at) (sound-feed line whole))
+    ∙ ap (λ outcome. rowThen outcome (readerOf line) (fedFor feeding) later .ending) (within-cases room row)
     ∙ row-ends room row (readerOf line) line whole later short
     ∙ ap (cond short (ending.Refused 13)) on
     ∙ ends-by room row (rowsOf (eventsOf (feeding .line) rest)) short refl
@@ -92,9 +95,9 @@ row-short (event (refused n) size) at fits sound = refused-short at fits n sound
 
 -- so a call takes a byte at least
 taken-by : (room : ℕ) (row : List ℕ) (reader : Reader) (line : Line) (byte : ℕ) (piece : List ℕ) (later : ℕ → Page) → length row ≤ room
-    → 0 < rowThen (cond (ltb room (length row)) (refused 13) (done row)) reader (fedFor (feedOf line (byte ∷ piece))) later .taken
+    → 0 < rowThen (within room (done row)) reader (fedFor (feedOf line (byte ∷ piece))) later .taken
 taken-by room row reader line byte piece later fits =
-    rw (le-ltb room (length row) fits)
+    rw (within-fits room row fits)
     (omega (arith, some-by (toldBy (line .held) byte) (startOf line) (step line byte) (feedOf (step line byte) piece)))
 
 takes-some : (room : ℕ) → 69 ≤ room → (calls : ℕ) (line : Line) → Good line → (byte : ℕ) (piece : List ℕ)

@@ -24,9 +24,11 @@ use Rattle.line.specs.Cuts.{eventsOf, lineAfter, heardThen}
 use Rattle.line.proofs.StaysGood.{Good, good-feed, feed-good, end-good, reader-of-good}
 use Rattle.line.proofs.CutLaws.{feed-parts, events-join, after-join, good-after, good-fresh}
 use Rattle.listing.specs.Listing.{headerRow, recordRow, strayRow}
-use Rattle.pages.specs.declared.Ending.{Ending}
-use Rattle.pages.specs.declared.Ending.the-variants as ending
-use Rattle.pages.specs.Pages.{rowFor, within, Page, stopped, rowThen, ifAny, pageBy, pageOf}
+use Rattle.laying.specs.Laying.{within}
+use Rattle.laying.proofs.LayingLaws.{within-cases}
+use Rattle.laying.specs.declared.Ending.{Ending}
+use Rattle.laying.specs.declared.Ending.the-variants as ending
+use Rattle.pages.specs.Pages.{rowFor, Page, stopped, rowThen, ifAny, pageBy, pageOf}
 use Rattle.pages.specs.Whole.{rowOfEvent, rowsOf, lastHeard, listingOf, Turns, turnsWith, Lent, bytesLent, rowsLaid, readerLeft, AllListed, WhatIsLaidIsTheListing}
 use Rattle.pages.proofs.NumberLaws.{read-number}
 use Rattle.pages.proofs.PageLaws.{page-good}
@@ -121,7 +123,8 @@ module _ (line : Line) (good : Good line) (piece : List ℕ) (room : ℕ) (later
   row-continues =
       subst⁻¹ (λ outcome. Continues line piece (rowThen (within room outcome) (readerOf line) (fedFor (feedOf line piece)) later))
       (row-told (feedOf line piece .told) (feedOf line piece .at) (sound-feed line piece))
-      (fits-or-not (ltb room (length (rowOfEvent heard))))
+      (subst⁻¹ (λ outcome. Continues line piece (rowThen outcome (readerOf line) (fedFor (feedOf line piece)) later)) (within-cases room (rowOfEvent heard))
+      (fits-or-not (ltb room (length (rowOfEvent heard)))))
 
 pub page-continues : (calls room : ℕ) (line : Line) → Good line → (piece : List ℕ) → Continues line piece (pageBy calls room (readerOf line) piece)
 unfolding pageBy

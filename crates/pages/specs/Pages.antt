@@ -2,17 +2,17 @@
 use mathlib.Core.Bool.{cond}
 use mathlib.Core.List.{List, [], _∷_, _++_}
 use Prim.Native.Nat.{ℕ, zero, suc, _+_, _-_}
-use lib.Dec.{ltb}
 use lib.ListN.{length, drop}
 use Rattle.refusals.specs.Refusals.{Outcome, done, refused}
+use Rattle.laying.specs.Laying.{within}
 use Rattle.line.specs.declared.Reader.{Reader}
 use Rattle.line.specs.declared.Fed.{Fed}
 use Rattle.line.specs.declared.Heard.{Heard}
 use Rattle.line.specs.declared.Heard.the-variants.{Nothing, Event, Refused}
 use Rattle.line.specs.Line.{wellFormed, feedReader}
 use Rattle.listing.specs.Listing.{eventRow}
-use Rattle.pages.specs.declared.Ending.{Ending}
-use Rattle.pages.specs.declared.Ending.the-variants as ending
+use Rattle.laying.specs.declared.Ending.{Ending}
+use Rattle.laying.specs.declared.Ending.the-variants as ending
 use Rattle.pages.specs.declared.Listed.{Listed}
 
 -- the row of what was heard: an event has one, nothing has none, and a refused state has its number
@@ -20,11 +20,6 @@ abbrev pub rowFor : Heard → Outcome (List ℕ)
 rowFor Nothing = done []
 rowFor (Event answer start size) = eventRow start answer
 rowFor (Refused number) = refused number
-
--- 13: "the lent buffer is shorter than what is to be written"
-abbrev pub within : ℕ → Outcome (List ℕ) → Outcome (List ℕ)
-within room (done row) = cond (ltb room (length row)) (refused 13) (done row)
-within room (refused number) = refused number
 
 -- what a call lays, how many bytes of the piece it takes, the reader after them, and how it ends
 pub record Page : Type 0 where

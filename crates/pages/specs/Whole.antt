@@ -13,8 +13,8 @@ use Rattle.line.specs.declared.Heard.the-variants.{Nothing, Event, Refused}
 use Rattle.line.specs.Line.{Line, freshLine, freshReader, toldByEnd, startOf, heardFor, endReader}
 use Rattle.line.specs.Cuts.{eventsOf, lineAfter}
 use Rattle.listing.specs.Listing.{headerRow, recordRow, refusedRow, strayRow}
-use Rattle.pages.specs.declared.Ending.{Ending}
-use Rattle.pages.specs.declared.Ending.the-variants as ending
+use Rattle.laying.specs.declared.Ending.{Ending}
+use Rattle.laying.specs.declared.Ending.the-variants as ending
 use Rattle.pages.specs.Pages.{pageOf}
 
 -- a row for each event: the record that was read, or the number that it was refused with

@@ -1,4 +1,5 @@
 // A line, listed: the rows of its events stand one behind another in a lent buffer, piece by piece.
+use laying::Ending;
 use line::Heard;
 use line::Reader;
 use listing::RowAnswer;
@@ -7,17 +8,12 @@ use refusals::STATE_ILL_FORMED;
 ghost use mathlib.Core.Path.{_≡_};
 ghost use mathlib.Core.List.{_++_};
 ghost use lib.ListN.{length, drop};
-ghost use Rattle.listing.specs.Listing.{laid};
+ghost use Rattle.laying.specs.Laying.{laid};
 ghost use Rattle.listing.specs.Answers.{rowAnswer};
 ghost use Rattle.pages.specs.Pages.{rowFor, pageOf, listedFor};
 
-// How a call ended: the whole piece was taken, or a refusal ended it.
-pub enum Ending {
-    Whole,
-    Refused(u8),
-}
-
-// The reader after the bytes that were taken, how many they are, and how many bytes their rows take.
+// The reader after the bytes that were taken, how many they are, how many bytes their rows take, and how the call ended: the whole
+// piece was taken, or a refusal ended it.
 pub struct Listed {
     pub reader: Reader,
     pub taken: usize,

@@ -1,13 +1,12 @@
 -- What a write makes, read back: for each setting, and for none. Assumes nothing.
 use mathlib.Core.Path.{_≡_, refl, ap, sym, _∙_}
 use mathlib.Core.Bool.{Bool, true, false, cond}
-use mathlib.Core.List.{List, _++_}
+use mathlib.Core.List.{List}
 use Prim.Native.Nat.{ℕ}
 use native.Mathlib.Omega.{arith}
-use lib.Dec.{ltb}
-use lib.ListN.{length, drop}
-use Rattle.refusals.specs.Refusals.{_when_, Outcome, done, refused, unless, after}
+use Rattle.refusals.specs.Refusals.{Outcome, done, refused, after}
 use Rattle.refusals.proofs.Laws.{was-done}
+use Rattle.laying.proofs.LayingLaws.{within-done}
 use Rattle.record.specs.declared.Record.{Record}
 use Rattle.record.specs.declared.Record.the-variants.{Dated, TimeOnly}
 use Rattle.record.specs.declared.DatedLayout.the-variants.{L6021}
@@ -19,7 +18,8 @@ use Rattle.telegram.specs.declared.write.Setting.{Setting}
 use Rattle.telegram.specs.declared.write.Choice.{Choice}
 use Rattle.telegram.specs.declared.write.Choice.the-variants.{Named, Unnamed}
 use Rattle.telegram.specs.Reading.{readOf}
-use Rattle.telegram.specs.Writing.{telegramOf, judgedOf, as6021, recordToWrite, controlOf, laid, written, laidIn}
+use Rattle.telegram.specs.Writing.{judgedOf, as6021, recordToWrite, controlOf, telegramFor, written}
+use Rattle.telegram.proofs.WriteLaws.{was-made}
 use Rattle.telegram.proofs.BackAndForth.{written-reads-back}
 
 -- the record that a choice writes is good
@@ -57,16 +57,9 @@ written-is-good Unnamed rec same = go (judgedOf rec) refl
 -- what a write makes reads back as the record that the choice asks for, whatever the room
 pub write-reads-back : (choice : Choice) (rec : Record) (room : ℕ) (bytes : List ℕ) → written choice rec room ≡ done bytes
     → readOf (controlOf choice) bytes ≡ recordToWrite choice rec
-unfolding written laid
-write-reads-back choice rec room bytes = go (recordToWrite choice rec) refl
-  where
-    go : (o : Outcome Record) → recordToWrite choice rec ≡ o
-        → after o (λ r. unless (13 when ltb room (length (telegramOf (controlOf choice) r))) (telegramOf (controlOf choice) r)) ≡ done bytes
-        → readOf (controlOf choice) bytes ≡ recordToWrite choice rec
-    go (done same) f e =
-        let made = was-done _ (telegramOf (controlOf choice) same) bytes e .1 in
-        ap (readOf (controlOf choice)) (sym made) ∙ written-reads-back same (written-is-good choice rec same f) (controlOf choice) ∙ sym f
-    go (refused n) f e = let z : _≡_ {A = ℕ} 0 1 = cc in absurd (omega arith)
+write-reads-back choice rec room bytes e =
+    let made = was-made choice rec bytes (within-done room (telegramFor choice rec) bytes e .0) in
+    ap (readOf (controlOf choice)) (sym (made .2)) ∙ written-reads-back (made .0) (written-is-good choice rec (made .0) (made .1)) (controlOf choice) ∙ sym (made .1)
 
 -- (c) written with second advance it reads back as the next second
 pub advance-reads-back : (setting : Setting) (rec : Record) (room : ℕ) (bytes : List ℕ) → setting .advance ≡ true
@@ -84,12 +77,3 @@ plain-reads-back setting rec room bytes off e =
 pub unnamed-reads-back : (rec : Record) (room : ℕ) (bytes : List ℕ) → written Unnamed rec room ≡ done bytes
     → readOf false bytes ≡ after (judgedOf rec) as6021
 unnamed-reads-back rec room bytes e = write-reads-back Unnamed rec room bytes e
-
--- (e) refused means untouched; written means that the telegram's own bytes change and no other
-pub refused-is-untouched : (choice : Choice) (rec : Record) (buffer : List ℕ) (n : ℕ) → written choice rec (length buffer) ≡ refused n
-    → laidIn (written choice rec (length buffer)) buffer ≡ buffer
-refused-is-untouched choice rec buffer n e = rw e
-
-pub written-is-laid : (choice : Choice) (rec : Record) (buffer bytes : List ℕ) → written choice rec (length buffer) ≡ done bytes
-    → laidIn (written choice rec (length buffer)) buffer ≡ bytes ++ drop (length bytes) buffer
-written-is-laid choice rec buffer bytes e = rw e

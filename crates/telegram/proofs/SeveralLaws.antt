@@ -1,73 +1,22 @@
 -- Laws of several telegrams, one behind another. Assumes nothing.
 use mathlib.Core.Path.{_≡_, refl, ap, ap₂, sym, _∙_}
-use mathlib.Core.Bool.{Bool, true, false}
 use mathlib.Core.List.{List, [], _∷_, _++_, append-assoc, append-nil}
 use Prim.Native.Nat.{ℕ, suc, _+_, _-_, _%_, _^_, _≤_, _<_, min}
 use native.Mathlib.Nat.{add-zero, zero-add, add-assoc}
 use native.Mathlib.Omega.{arith}
-use lib.Dec.{leb}
-use lib.ListN.{length, take, drop, length-append, length-drop, drop-of-length-le, take-append-drop}
-use lib.Seq.{take-all, length-take-le, drop-drop, take-at, drop-at}
-use borrow.Author.Tests.{leb-true, leb-false, ne-eqb}
+use lib.ListN.{length, take, drop, length-append, length-drop, take-append-drop}
+use lib.Seq.{length-take-le, drop-drop, take-at, drop-at}
+use borrow.Author.Tests.{ne-eqb}
 use borrow.Rule.Slice.PartMut.{putMid}
 use Rattle.refusals.specs.Refusals.{Outcome, done, refused}
+use Rattle.laying.specs.Laying.{laidIn, laid}
+use Rattle.laying.proofs.LayingLaws.{within-done, stands, stops}
+use Rattle.laying.proofs.TailLaws.{tail-lent, tail-back, tail-length}
 use Rattle.record.specs.declared.Record.{Record}
 use Rattle.telegram.specs.declared.write.Choice.{Choice}
 use Rattle.telegram.specs.declared.several.Several.{Several}
-use Rattle.telegram.specs.Writing.{written, sizeOf, laidIn, noneYet, oneMore, severalAfter, bufferAfter, severalAll, andThen, standing, orElse, firstRefusal, joined}
-use Rattle.telegram.proofs.WriteLaws.{written-fits, written-some}
-
--- The tail of a buffer, lent from where the room begins.
-module _ (used : ℕ) (out : List ℕ) where
-  start-drop : drop (min used (length out)) out ≡ drop used out
-  start-drop = go (leb used (length out)) refl
-    where
-      go : (t : Bool) → leb used (length out) ≡ t → drop (min used (length out)) out ≡ drop used out
-      go true e =
-          let within = leb-true used (length out) e in
-          let same : min used (length out) ≡ used = omega arith in ap (λ k. drop k out) same
-      go false e =
-          let past = leb-false used (length out) e in
-          drop-of-length-le out {i = min used (length out)} (omega arith) ∙ sym (drop-of-length-le out {i = used} (omega arith))
-
-  start-take : take (min used (length out)) out ≡ take used out
-  start-take = go (leb used (length out)) refl
-    where
-      go : (t : Bool) → leb used (length out) ≡ t → take (min used (length out)) out ≡ take used out
-      go true e =
-          let within = leb-true used (length out) e in
-          let same : min used (length out) ≡ used = omega arith in ap (λ k. take k out) same
-      go false e =
-          let past = leb-false used (length out) e in
-          take-all (min used (length out)) out (omega arith) ∙ sym (take-all used out (omega arith))
-
-  pub tail-lent : (start : ℕ) → start ≡ min used (length out) → take (length out - start) (drop start out) ≡ drop used out
-  tail-lent start e =
-      rw e (take-all (length out - min used (length out)) _ (omega (arith, length-drop (min used (length out)) out)) ∙ start-drop)
-
-  pub tail-back : (start : ℕ) (last : List ℕ) → start ≡ min used (length out)
-      → putMid start (length out - start) out last ≡ take used out ++ last
-  tail-back start last e =
-      let none : drop (length out - start) (drop start out) ≡ [] =
-      drop-of-length-le (drop start out) {i = length out - start} (omega (arith, length-drop start out)) in
-      rw none (ap₂ _++_ (ap (λ k. take k out) e ∙ start-take) (append-nil last))
-
-  pub tail-length : length (drop used out) ≡ length out - used
-  tail-length = length-drop used out
-
--- what a write's answer says of what was written
-pub record Done (w : Outcome (List ℕ)) (n : ℕ) : Type 0 where
-  pub bytes : List ℕ
-  pub is-done : w ≡ done bytes
-  pub size : length bytes ≡ n
-
-pub told-done : (w : Outcome (List ℕ)) (n : ℕ) → sizeOf w ≡ done n → Done w n
-told-done (done bytes) n e = record { bytes = bytes; is-done = refl; size = cc }
-told-done (refused k) n e = let z : _≡_ {A = ℕ} 0 1 = cc in absurd (omega arith)
-
-pub told-refused : (w : Outcome (List ℕ)) (n : ℕ) → sizeOf w ≡ refused n → w ≡ refused n
-told-refused (done bytes) n e = let z : _≡_ {A = ℕ} 0 1 = cc in absurd (omega arith)
-told-refused (refused k) n e = ap refused cc
+use Rattle.telegram.specs.Writing.{telegramFor, written, noneYet, oneMore, severalAfter, bufferAfter, severalAll, andThen, standing, orElse, firstRefusal, joined}
+use Rattle.telegram.proofs.WriteLaws.{written-some}
 
 -- the ways in which one more telegram ends
 module _ (choice : Choice) (several : Several) (rec : Record) (out : List ℕ) where
@@ -86,33 +35,40 @@ module _ (choice : Choice) (several : Several) (rec : Record) (out : List ℕ) w
     goes-into = rw none
 
     -- the tail lent from `start` on, and what a write left in it
-    module _ (start : ℕ) (last : List ℕ) (begins : start ≡ min (several .used) (length out))
-        (left : last
-        ≡ laidIn (written choice rec (length (take (length out - start) (drop start out)))) (take (length out - start) (drop start out))) where
-      same-room : written choice rec (length (take (length out - start) (drop start out))) ≡ written choice rec (length out - several .used)
-      same-room = ap (written choice rec) (ap length (tail-lent (several .used) out start begins) ∙ tail-length (several .used) out)
+    module _ (start : ℕ) (last : List ℕ) (answer : Outcome ℕ) (begins : start ≡ min (several .used) (length out))
+        (told : laid (telegramFor choice rec) (take (length out - start) (drop start out)) ≡ (answer, last)) where
+      told-here : laid (telegramFor choice rec) (drop (several .used) out) ≡ (answer, last)
+      told-here = ap (laid (telegramFor choice rec)) (sym (tail-lent (several .used) out start begins)) ∙ told
 
-      buffer-is : putMid start (length out - start) out last ≡ bufferAfter choice several rec out
-      buffer-is =
-          tail-back (several .used) out start last begins
-          ∙ ap (λ l. take (several .used) out ++ l) (left ∙ ap₂ laidIn same-room (tail-lent (several .used) out start begins))
-          ∙ sym goes-into
+      same-room : written choice rec (length out - several .used) ≡ written choice rec (length (drop (several .used) out))
+      same-room = ap (written choice rec) (sym (tail-length (several .used) out))
 
-      pub one-stands : (n count : ℕ) → count ≡ (several .count + 1) % 2 ^ 64
-          → sizeOf (written choice rec (length (take (length out - start) (drop start out)))) ≡ done n
+      pub one-stands : (n count : ℕ) → count ≡ (several .count + 1) % 2 ^ 64 → answer ≡ done n
           → (record { count = count; used = several .used + n; refusal = 0 } ≡ severalAfter choice several rec out)
           × (putMid start (length out - start) out last ≡ bufferAfter choice several rec out)
-      one-stands n count c told =
-          let d = told-done _ n told in
+      one-stands n count c is =
+          let d = stands (telegramFor choice rec) (drop (several .used) out) n last (told-here ∙ ap (λ a. (a, last)) is) in
           let whole : record { count = count; used = several .used + n; refusal = 0 } ≡ oneMore several (done (d .bytes)) =
           λ i. record { count = c i; used = several .used + sym (d .size) i; refusal = 0 } in
-          (whole ∙ ap (oneMore several) (sym (d .is-done) ∙ same-room) ∙ sym goes-in, buffer-is)
+          let made = same-room ∙ d .is-laid in
+          let laid-there = d .last-is ∙ ap (λ k. d .bytes ++ drop k (drop (several .used) out)) (sym (d .size)) in (
+            whole ∙ ap (oneMore several) (sym made) ∙ sym goes-in,
+            tail-back (several .used) out start last begins
+                ∙ ap (_++_ (take (several .used) out)) (laid-there ∙ ap (λ w. laidIn w (drop (several .used) out)) (sym made))
+                ∙ sym goes-into,
+          )
 
-      pub one-stops : (n : ℕ) → sizeOf (written choice rec (length (take (length out - start) (drop start out)))) ≡ refused n
+      pub one-stops : (n : ℕ) → answer ≡ refused n
           → (record { count = several .count; used = several .used; refusal = n } ≡ severalAfter choice several rec out)
           × (putMid start (length out - start) out last ≡ bufferAfter choice several rec out)
-      one-stops n told =
-          (ap (oneMore several) (sym (told-refused _ n told) ∙ same-room) ∙ sym goes-in, buffer-is)
+      one-stops n is =
+          let s = stops (telegramFor choice rec) (drop (several .used) out) n last (told-here ∙ ap (λ a. (a, last)) is) in
+          let made = same-room ∙ s .0 in (
+            ap (oneMore several) (sym made) ∙ sym goes-in,
+            tail-back (several .used) out start last begins
+                ∙ ap (_++_ (take (several .used) out)) (s .1 ∙ ap (λ w. laidIn w (drop (several .used) out)) (sym made))
+                ∙ sym goes-into,
+          )
 
 -- A whole list: the telegrams that stand, one behind another, and then the untouched rest.
 length-joined : (bytes : List ℕ) (more : List (List ℕ)) → length (joined (bytes ∷ more)) ≡ length bytes + length (joined more)
@@ -215,7 +171,7 @@ all-from choice (rec ∷ recs) several out none small within =
         → severalAll choice (rec ∷ recs) several out
         ≡ ended (andThen w (λ bytes. standing choice recs (room - length bytes))) (orElse w (λ bytes. firstRefusal choice recs (room - length bytes))) several out
     go (done bytes) e later =
-        let fits = written-fits choice rec room bytes e in
+        let fits = within-done room (telegramFor choice rec) bytes e .1 in
         let left : length (next (several .used) out bytes) - (several .used + length bytes) ≡ room - length bytes =
         omega (arith, next-length (several .used) out bytes within fits) in
         step

@@ -2,16 +2,16 @@
 use mathlib.Core.Path.{_≡_, refl, ap, ap₂, sym, _∙_}
 use mathlib.Core.Bool.{Bool, true, false, cond}
 use mathlib.Core.List.{List, [], _∷_, _++_, map, append-assoc, append-nil}
-use Prim.Native.Nat.{ℕ, suc, _+_, _-_, _≤_, _<_}
+use Prim.Native.Nat.{ℕ, suc, _+_, _-_, _≤_}
 use native.Mathlib.Numerals.{add-one, add-two}
 use native.Mathlib.Omega.{arith}
 use lib.ListN.{length, take, drop, set, length-append, length-drop, drop-of-length-le}
 use lib.Seq.{take-all, drop-cons, set-at}
-use lib.Dec.{ltb}
-use borrow.Author.Tests.{lt-ltb, le-ltb, ltb-false}
 use borrow.Rule.Slice.PartMut.{putMid}
-use Rattle.refusals.specs.Refusals.{_when_, Outcome, done, refused, unless, after}
-use Rattle.refusals.proofs.Laws.{was-done, when-none, refused-some}
+use Rattle.refusals.specs.Refusals.{Outcome, done, refused, after}
+use Rattle.refusals.proofs.Laws.{refused-some}
+use Rattle.laying.specs.Laying.{within}
+use Rattle.laying.proofs.LayingLaws.{within-unless, within-refused}
 use Rattle.places.specs.Places.{place, render, over}
 use Rattle.places.proofs.Rendering.{length-render}
 use Rattle.record.specs.declared.Record.{Record}
@@ -22,7 +22,7 @@ use Rattle.layouts.specs.declared.rows.Span.{Span}
 use Rattle.layouts.specs.Layouts.{placesOf, allRows, spanOf, ownLayout}
 use Rattle.layouts.specs.Coding.{digitsOut}
 use Rattle.layouts.proofs.RowLaws.{span-row, span-ends, row-length}
-use Rattle.telegram.specs.Writing.{bodyBytes, telegramOf, judgedOf, as6021, recordToWrite, controlOf, laid, written}
+use Rattle.telegram.specs.Writing.{bodyBytes, telegramOf, judgedOf, as6021, recordToWrite, controlOf, telegramFor, written}
 use Rattle.telegram.specs.declared.write.Choice.{Choice}
 use Rattle.telegram.specs.declared.write.Choice.the-variants.{Named, Unnamed}
 
@@ -32,16 +32,6 @@ length-body rec = length-render (placesOf (ownLayout rec)) (digitsOut rec)
 
 pub length-framed : (rec : Record) → length (telegramOf true rec) ≡ length (bodyBytes rec) + 2
 length-framed rec = omega (arith, length-append (bodyBytes rec) (3 ∷ []))
-
--- there is no room, or there is
-module _ (control : Bool) (rec : Record) (n : ℕ) where
-  pub no-room : n < length (telegramOf control rec) → laid control rec n ≡ refused 13
-  unfolding laid unless
-  no-room h = rw (lt-ltb _ _ h)
-
-  pub room : length (telegramOf control rec) ≤ n → laid control rec n ≡ done (telegramOf control rec)
-  unfolding laid unless
-  room h = rw (le-ltb _ _ h)
 
 -- what the code's rows and digits make of a buffer
 module _ (rec : Record) (span : Span) (marks : span ≡ spanOf (ownLayout rec)) where
@@ -128,37 +118,33 @@ record-some Unnamed rec k = go (judgedOf rec) refl
     go (refused m) f e none = judged-some rec m f (let same : m ≡ k = cc in same ∙ none)
 
 -- the record that a choice writes decides
-module _ (choice : Choice) (rec : Record) (n : ℕ) where
-  pub written-refused : (k : ℕ) → recordToWrite choice rec ≡ refused k → written choice rec n ≡ refused k
-  unfolding written
-  written-refused k e = rw e
+module _ (choice : Choice) (rec : Record) where
+  pub telegram-refused : (k : ℕ) → recordToWrite choice rec ≡ refused k → telegramFor choice rec ≡ refused k
+  unfolding telegramFor
+  telegram-refused k e = rw e
 
-  pub written-laid : (control : Bool) (good : Record) → recordToWrite choice rec ≡ done good → controlOf choice ≡ control
-      → written choice rec n ≡ laid control good n
-  unfolding written
-  written-laid control good e f = rw (e, f)
+  pub telegram-made : (control : Bool) (good : Record) → recordToWrite choice rec ≡ done good → controlOf choice ≡ control
+      → telegramFor choice rec ≡ done (telegramOf control good)
+  unfolding telegramFor
+  telegram-made control good e f = rw (e, f)
 
-  -- what is written fits
-  pub written-fits : (bytes : List ℕ) → written choice rec n ≡ done bytes → length bytes ≤ n
-  unfolding written laid
-  written-fits bytes = go (recordToWrite choice rec)
+  -- and is good, where there is a telegram
+  pub was-made : (bytes : List ℕ) → telegramFor choice rec ≡ done bytes → (good : Record) × (recordToWrite choice rec ≡ done good) × (telegramOf (controlOf choice) good ≡ bytes)
+  unfolding telegramFor
+  was-made bytes = go (recordToWrite choice rec) refl
     where
-      go : (o : Outcome Record)
-          → after o (λ r. unless (13 when ltb n (length (telegramOf (controlOf choice) r))) (telegramOf (controlOf choice) r)) ≡ done bytes
-          → length bytes ≤ n
-      go (done r) e =
-          let made = was-done _ (telegramOf (controlOf choice) r) bytes e in
-          let long = ltb-false n (length (telegramOf (controlOf choice) r)) (when-none 12 _ (made .0)) in
-          omega (arith, ap length (made .1))
-      go (refused k) e = let z : _≡_ {A = ℕ} 0 1 = cc in absurd (omega arith)
+      go : (o : Outcome Record) → recordToWrite choice rec ≡ o → after o (λ r. done (telegramOf (controlOf choice) r)) ≡ done bytes
+          → (good : Record) × (recordToWrite choice rec ≡ done good) × (telegramOf (controlOf choice) good ≡ bytes)
+      go (done good) is e = (good, is, cc)
+      go (refused n) is e = let z : _≡_ {A = ℕ} 0 1 = cc in absurd (omega arith)
 
   -- and what is refused is refused with a number
-  pub written-some : (k : ℕ) → written choice rec n ≡ refused k → k ≡ 0 → ⊥
-  unfolding written laid
-  written-some k = go (recordToWrite choice rec) refl
+  pub written-some : (room k : ℕ) → written choice rec room ≡ refused k → k ≡ 0 → ⊥
+  unfolding telegramFor
+  written-some room k = go (recordToWrite choice rec) refl
     where
-      go : (o : Outcome Record) → recordToWrite choice rec ≡ o
-          → after o (λ r. unless (13 when ltb n (length (telegramOf (controlOf choice) r))) (telegramOf (controlOf choice) r)) ≡ refused k
-          → k ≡ 0 → ⊥
-      go (done r) f e none = refused-some _ k (telegramOf (controlOf choice) r) e none
-      go (refused m) f e none = record-some choice rec m f (let same : m ≡ k = cc in same ∙ none)
+      go : (o : Outcome Record) → recordToWrite choice rec ≡ o → within room (after o (λ r. done (telegramOf (controlOf choice) r))) ≡ refused k → k ≡ 0 → ⊥
+      go (done r) f e none = refused-some _ k (telegramOf (controlOf choice) r) (sym (within-unless room (telegramOf (controlOf choice) r)) ∙ e) none
+      go (refused m) f e none =
+          let told = sym (within-refused room m) ∙ e in
+          record-some choice rec m f (let same : m ≡ k = cc in same ∙ none)

@@ -2,9 +2,10 @@
 use mathlib.Core.Bool.{Bool, false, cond}
 use mathlib.Core.List.{List, [], _∷_, _++_}
 use Prim.Native.Nat.{ℕ, _+_, _-_, _%_, _^_}
-use lib.Dec.{ltb, eqb}
+use lib.Dec.{eqb}
 use lib.ListN.{length, take, drop}
-use Rattle.refusals.specs.Refusals.{_when_, Outcome, done, refused, unless, after}
+use Rattle.refusals.specs.Refusals.{Outcome, done, refused, unless, after}
+use Rattle.laying.specs.Laying.{within, laidIn}
 use Rattle.ascii.specs.Control.{stx, etx}
 use Rattle.places.specs.Places.{render}
 use Rattle.record.specs.declared.DatedLayout.the-variants.{L6021}
@@ -46,23 +47,13 @@ abbrev pub controlOf : Choice → Bool
 controlOf (Named setting) = setting .control
 controlOf Unnamed = false
 
--- 13: "the lent buffer is shorter than what is to be written"
-unfoldable pub laid : Bool → Record → ℕ → Outcome (List ℕ)
-laid control rec room = unless (13 when ltb room (length (telegramOf control rec))) (telegramOf control rec)
+-- the telegram that a choice makes of a record, or why there is none: 5 to 8, 12, 14
+unfoldable pub telegramFor : Choice → Record → Outcome (List ℕ)
+telegramFor choice rec = after (recordToWrite choice rec) (λ r. done (telegramOf (controlOf choice) r))
 
 -- the telegram that is written into a buffer of so many bytes
-unfoldable pub written : Choice → Record → ℕ → Outcome (List ℕ)
-written choice rec room = after (recordToWrite choice rec) (λ r. laid (controlOf choice) r room)
-
--- the answer: how many bytes the telegram takes
-abbrev pub sizeOf : Outcome (List ℕ) → Outcome ℕ
-sizeOf (done bytes) = done (length bytes)
-sizeOf (refused n) = refused n
-
--- "a refused write leaves the buffer untouched; a successful one changes only the telegram's own bytes"
-abbrev pub laidIn : Outcome (List ℕ) → List ℕ → List ℕ
-laidIn (done bytes) buffer = bytes ++ drop (length bytes) buffer
-laidIn (refused n) buffer = buffer
+abbrev pub written : Choice → Record → ℕ → Outcome (List ℕ)
+written choice rec room = within room (telegramFor choice rec)
 
 -- Several, one behind another.
 

@@ -11,10 +11,11 @@ use refusals::NO_DATE;
 use refusals::NONE;
 ghost use mathlib.Core.Path.{_≡_};
 ghost use mathlib.Core.Bool.{true, false};
-ghost use lib.ListN.{length};
+ghost use Rattle.refusals.specs.Refusals.{done};
+ghost use Rattle.laying.specs.Laying.{laid};
 ghost use Rattle.record.specs.Answers.{recordAnswer};
 ghost use Rattle.layouts.specs.Layouts.{spanOf, ownLayout};
-ghost use Rattle.telegram.specs.Writing.{as6021, judgedOf, recordToWrite, controlOf, laid, written, sizeOf, laidIn};
+ghost use Rattle.telegram.specs.Writing.{as6021, judgedOf, recordToWrite, controlOf, telegramOf, telegramFor};
 ghost use Rattle.telegram.specs.Answers.{writeAnswer};
 
 pub struct Setting {
@@ -95,7 +96,7 @@ fn span_of(rec: Record) -> Span
 
 // Lays a record's telegram into the buffer without STX and ETX, if there is room for it.
 fn lay_bare(rec: Record, out: &mut [u8]) -> WriteAnswer
-    ensures { λ r. ⌜ (writeAnswer r ≡ sizeOf (laid false rec (length (now (out .entry))))) × (now (out .exit) ≡ laidIn (laid false rec (length (now (out .entry)))) (now (out .entry))) ⌝ }
+    ensures { λ r. ⌜ laid (done (telegramOf false rec)) (now (out .entry)) ≡ (writeAnswer r, now (out .exit)) ⌝ }
 {
     let span = span_of(rec);
     let start = span.start;
@@ -112,7 +113,7 @@ fn lay_bare(rec: Record, out: &mut [u8]) -> WriteAnswer
 
 // The same between STX and ETX.
 fn lay_framed(rec: Record, out: &mut [u8]) -> WriteAnswer
-    ensures { λ r. ⌜ (writeAnswer r ≡ sizeOf (laid true rec (length (now (out .entry))))) × (now (out .exit) ≡ laidIn (laid true rec (length (now (out .entry)))) (now (out .entry))) ⌝ }
+    ensures { λ r. ⌜ laid (done (telegramOf true rec)) (now (out .entry)) ≡ (writeAnswer r, now (out .exit)) ⌝ }
 {
     let span = span_of(rec);
     let start = span.start;
@@ -131,7 +132,7 @@ fn lay_framed(rec: Record, out: &mut [u8]) -> WriteAnswer
 
 // Writes one telegram at the front of the buffer. A refused write leaves every byte of it as it was.
 pub fn write(rec: Record, choice: Choice, out: &mut [u8]) -> WriteAnswer
-    ensures { λ r. ⌜ (writeAnswer r ≡ sizeOf (written choice rec (length (now (out .entry))))) × (now (out .exit) ≡ laidIn (written choice rec (length (now (out .entry)))) (now (out .entry))) ⌝ }
+    ensures { λ r. ⌜ laid (telegramFor choice rec) (now (out .entry)) ≡ (writeAnswer r, now (out .exit)) ⌝ }
 {
     match record_to_write(choice, rec) {
         RecordAnswer::Refused(number) => WriteAnswer::Refused(number),

@@ -1,6 +1,6 @@
 -- `pages::row_for` meets its contract.
 use mathlib.Core.Path.{ap, _∙_}
-use Rattle.listing.specs.Listing.{laid}
+use Rattle.laying.specs.Laying.{laid}
 use Rattle.pages.specs.Pages.{rowFor}
 use Rattle.pages.proofs.PageLaws.{nothing-laid, refused-laid}
 use borrow.Author.Needs.{needs}

@@ -1,7 +1,8 @@
 -- `listing::rows::row` meets its contract.
 use mathlib.Core.Path.{ap, _∙_}
 use native.Mathlib.Omega.{arith}
-use Rattle.listing.specs.Listing.{eventRow, laid}
+use Rattle.laying.specs.Laying.{laid}
+use Rattle.listing.specs.Listing.{eventRow}
 use Rattle.listing.proofs.TextLaws.{small-enough, row-laid}
 use Rattle.listing.proofs.RowLaws.{rule-refuses, rule-passes, dated-short, time-short, refused-short}
 use borrow.Author.Needs.{needs}

@@ -1,11 +1,14 @@
 -- `telegram::write::lay_bare` meets its contract.
-use mathlib.Core.Path.{refl, ap, _∙_}
+use mathlib.Core.Path.{sym, ap₂, _∙_}
 use mathlib.Core.Bool.{false}
+use Prim.Native.Nat.{_≤_}
 use native.Mathlib.Omega.{arith}
 use lib.ListN.{length}
 use Rattle.refusals.specs.Refusals.{done}
+use Rattle.laying.proofs.LayingLaws.{laid-short, laid-fits}
 use Rattle.layouts.proofs.RowLaws.{span-ends, span-within}
-use Rattle.telegram.proofs.WriteLaws.{span-size, no-room, room, body-laid, over-room}
+use Rattle.telegram.specs.Writing.{bodyBytes, telegramOf}
+use Rattle.telegram.proofs.WriteLaws.{span-size, body-laid, over-room}
 use borrow.Author.Needs.{needs}
 use Rattle.telegram.proofs.write.lay_bare.Statement.{statement}
 use Rattle.telegram.proofs.write.lay_bare.Tie as tie
@@ -19,8 +22,7 @@ sub-length c = omega (arith, span-ends _ _ (c .span-of .ensures))
 returns : tie.Need-returns
 returns c =
     let rec = c .before .before .before .args .rec in
-    let short = no-room false rec (length (c .before .before .before .args .out .now)) (omega (arith, c .if1 .taken, span-size rec _ (c .before .span-of .ensures))) in
-    rw short (refl, refl)
+    laid-short (telegramOf false rec) (c .before .before .before .args .out .now) (omega (arith, c .if1 .taken, span-size rec _ (c .before .span-of .ensures)))
 
 digits-out-requires : tie.Need-digits-out-requires
 digits-out-requires c κs = search needs
@@ -48,9 +50,9 @@ returns-2 c =
     let rec = c .before .before .before .before .before .before .before .before .before .before .before .args .rec in
     let out = c .before .before .before .before .before .before .before .before .before .before .before .args .out .now in
     let n = span-size rec _ (c .before .before .before .before .before .before .before .before .before .span-of .ensures) in
-    let fits = room false rec (length out) (omega (arith, c .before .before .before .before .before .before .before .before .if1 .left, n)) in
+    let fits : length (bodyBytes rec) ≤ length out = omega (arith, c .before .before .before .before .before .before .before .before .if1 .left, n) in
     let made = body-laid rec _ (c .before .before .before .before .before .before .before .before .before .span-of .ensures) _ _ _ out (c .before .before .before .before .before .before .rows .ensures) (c .before .before .before .before .before .before .before .digits-out .ensures) (c .before .before .render .ensures) in
-    rw fits (ap done n, made ∙ over-room _ out (omega (arith, c .before .before .before .before .before .before .before .before .if1 .left, n)))
+    laid-fits (telegramOf false rec) out fits ∙ ap₂ (λ k l. (done k, l)) (sym n) (sym (made ∙ over-room _ out fits))
 
 pub lay-bare-spec : {M : Type 1} → statement M
 lay-bare-spec =

@@ -1,5 +1,5 @@
 -- `telegram::write::lay_framed` meets its contract.
-use mathlib.Core.Path.{refl, sym, ap, _∙_}
+use mathlib.Core.Path.{sym, ap, ap₂, _∙_}
 use mathlib.Core.Bool.{true}
 use mathlib.Core.List.{_++_}
 use Prim.Native.Nat.{ℕ, _+_, _-_, _≤_}
@@ -7,9 +7,10 @@ use native.Mathlib.Omega.{arith}
 use lib.ListN.{length, drop, set, length-set}
 use borrow.Rule.Slice.PartMut.{putMid}
 use Rattle.refusals.specs.Refusals.{done}
+use Rattle.laying.proofs.LayingLaws.{laid-short, laid-fits}
 use Rattle.layouts.proofs.RowLaws.{span-ends, span-within}
 use Rattle.telegram.specs.Writing.{bodyBytes, telegramOf}
-use Rattle.telegram.proofs.WriteLaws.{span-size, span-small, length-framed, no-room, room, body-laid, length-framing, framed-laid}
+use Rattle.telegram.proofs.WriteLaws.{span-size, span-small, length-framed, body-laid, length-framing, framed-laid}
 use borrow.Author.Needs.{needs}
 use Rattle.telegram.proofs.write.lay_framed.Statement.{statement}
 use Rattle.telegram.proofs.write.lay_framed.Tie as tie
@@ -27,8 +28,7 @@ returns : tie.Need-returns
 returns c =
     let rec = c .before .before .before .args .rec in
     let n = span-size rec _ (c .before .span-of .ensures) in
-    let short = no-room true rec (length (c .before .before .before .args .out .now)) (omega (arith, c .if1 .taken, n, length-framed rec)) in
-    rw short (refl, refl)
+    laid-short (telegramOf true rec) (c .before .before .before .args .out .now) (omega (arith, c .if1 .taken, n, length-framed rec))
 
 digits-out-requires : tie.Need-digits-out-requires
 digits-out-requires c κs = search needs
@@ -96,11 +96,10 @@ returns-2 c =
     let n = span-size rec _ (c .before .before .before .before .before .before .before .before .before .span-of .ensures) in
     let fits : length (bodyBytes rec) + 2 ≤ length out = omega (arith, c .before .before .before .before .before .before .before .before .if1 .left, n) in
     let made = body-laid rec _ (c .before .before .before .before .before .before .before .before .before .span-of .ensures) _ _ last _ (c .before .before .before .before .before .before .rows .ensures) (c .before .before .before .before .before .before .before .digits-out .ensures) (c .before .before .render .ensures) in
-    let all = room true rec (length out) (omega (arith, length-framed rec)) in
     let size = ap (λ k. k + 2) n ∙ sym (length-framed rec) in
     let back = putMid 1 (length (set out 0 2) - 1) (set out 0 2) last in
-    rw all
-    (ap done size, ap (λ k. set back (k + 1) 3) n ∙ framed-laid (bodyBytes rec) out last fits made ∙ ap (λ k. telegramOf true rec ++ drop k out) (sym (length-framed rec)))
+    let laid-in = ap (λ k. set back (k + 1) 3) n ∙ framed-laid (bodyBytes rec) out last fits made ∙ ap (λ k. telegramOf true rec ++ drop k out) (sym (length-framed rec)) in
+    laid-fits (telegramOf true rec) out (omega (arith, length-framed rec)) ∙ ap₂ (λ k l. (done k, l)) (sym size) (sym laid-in)
 
 pub lay-framed-spec : {M : Type 1} → statement M
 lay-framed-spec =

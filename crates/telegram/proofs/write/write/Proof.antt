@@ -1,8 +1,9 @@
 -- `telegram::write::write` meets its contract.
-use mathlib.Core.Path.{refl, sym, ap, _∙_}
-use lib.ListN.{length}
+use mathlib.Core.Path.{sym, ap, _∙_}
+use Rattle.laying.specs.Laying.{laid}
+use Rattle.laying.proofs.LayingLaws.{laid-refused}
 use Rattle.record.specs.Answers.{recordAnswer}
-use Rattle.telegram.proofs.WriteLaws.{written-refused, written-laid}
+use Rattle.telegram.proofs.WriteLaws.{telegram-refused, telegram-made}
 use borrow.Author.Needs.{needs}
 use Rattle.telegram.proofs.write.write.Statement.{statement}
 use Rattle.telegram.proofs.write.write.Tie as tie
@@ -27,25 +28,27 @@ same-length c = search needs
 
 returns : tie.Need-returns
 returns c =
-    let made = written-laid (c .before .before .before .before .before .before .before .before .before .before .before .args .choice) (c .before .before .before .before .before .before .before .before .before .before .before .args .rec) (length (c .before .before .before .before .before .before .before .before .before .before .before .args .out .now)) _ _ (sym (c .before .before .before .before .before .before .before .before .before .record-to-write .ensures) ∙ ap recordAnswer (c .before .before .before .before .before .before .before .good2 .given .1)) (sym (c .before .before .before .before .before .control-of .ensures) ∙ c .before .before .before .before .if1 .taken) in
-    rw made (c .before .before .lay-framed .ensures)
+    ap (λ o. laid o (c .before .before .before .before .before .before .before .before .before .before .before .args .out .now))
+    (telegram-made (c .before .before .before .before .before .before .before .before .before .before .before .args .choice) (c .before .before .before .before .before .before .before .before .before .before .before .args .rec) _ _ (sym (c .before .before .before .before .before .before .before .before .before .record-to-write .ensures) ∙ ap recordAnswer (c .before .before .before .before .before .before .before .good2 .given .1)) (sym (c .before .before .before .before .before .control-of .ensures) ∙ c .before .before .before .before .if1 .taken))
+    ∙ c .before .before .lay-framed .ensures
 
 lay-bare-requires : tie.Need-lay-bare-requires
 lay-bare-requires c κs = search needs
 
 returns-2 : tie.Need-returns-2
 returns-2 c =
-    let none = written-refused (c .before .before .before .before .before .args .choice) (c .before .before .before .before .before .args .rec) (length (c .before .before .before .before .before .args .out .now)) _
-    (sym (c .before .before .before .record-to-write .ensures) ∙ ap recordAnswer (c .before .number .given .1)) in
-    rw none (refl, refl)
+    ap (λ o. laid o (c .before .before .before .before .before .args .out .now))
+    (telegram-refused (c .before .before .before .before .before .args .choice) (c .before .before .before .before .before .args .rec) _ (sym (c .before .before .before .record-to-write .ensures) ∙ ap recordAnswer (c .before .number .given .1)))
+    ∙ laid-refused _ (c .before .before .before .before .before .args .out .now)
 
 same-length-2 : tie.Need-same-length-2
 same-length-2 c = search needs
 
 returns-3 : tie.Need-returns-3
 returns-3 c =
-    let made = written-laid (c .before .before .before .before .before .before .before .before .before .before .before .args .choice) (c .before .before .before .before .before .before .before .before .before .before .before .args .rec) (length (c .before .before .before .before .before .before .before .before .before .before .before .args .out .now)) _ _ (sym (c .before .before .before .before .before .before .before .before .before .record-to-write .ensures) ∙ ap recordAnswer (c .before .before .before .before .before .before .before .good2 .given .1)) (sym (c .before .before .before .before .before .control-of .ensures) ∙ c .before .before .before .before .if1 .left) in
-    rw made (c .before .before .lay-bare .ensures)
+    ap (λ o. laid o (c .before .before .before .before .before .before .before .before .before .before .before .args .out .now))
+    (telegram-made (c .before .before .before .before .before .before .before .before .before .before .before .args .choice) (c .before .before .before .before .before .before .before .before .before .before .before .args .rec) _ _ (sym (c .before .before .before .before .before .before .before .before .before .record-to-write .ensures) ∙ ap recordAnswer (c .before .before .before .before .before .before .before .good2 .given .1)) (sym (c .before .before .before .before .before .control-of .ensures) ∙ c .before .before .before .before .if1 .left))
+    ∙ c .before .before .lay-bare .ensures
 
 pub write-spec : {M : Type 1} → statement M
 write-spec =

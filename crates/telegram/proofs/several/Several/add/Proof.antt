@@ -1,13 +1,12 @@
 -- `telegram::several::Several::add` meets its contract: each way it ends is a law of the definition.
-use Rattle.telegram.proofs.SeveralLaws.{one-stands, one-stops}
-use mathlib.Core.Path.{sym, ap, _∙_}
-use Prim.Native.Nat.{_-_}
+use mathlib.Core.Path.{ap, _∙_}
 use native.Mathlib.Omega.{arith}
-use lib.ListN.{length, take, drop}
+use lib.ListN.{length}
+use Rattle.laying.proofs.LayingLaws.{within-done, stands}
+use Rattle.laying.proofs.TailLaws.{tail-lent, tail-length}
 use Rattle.telegram.specs.Answers.{writeAnswer}
-use Rattle.telegram.specs.Writing.{written}
-use Rattle.telegram.proofs.WriteLaws.{written-fits}
-use Rattle.telegram.proofs.SeveralLaws.{tail-lent, tail-length, told-done, ended-before}
+use Rattle.telegram.specs.Writing.{telegramFor}
+use Rattle.telegram.proofs.SeveralLaws.{ended-before, one-stands, one-stops}
 use borrow.Author.Needs.{needs}
 use Rattle.telegram.proofs.several.Several.add.Statement.{statement}
 use Rattle.telegram.proofs.several.Several.add.Tie as tie
@@ -41,9 +40,8 @@ add-t17 c =
     let self = c .before .before .before .before .before .before .before .before .before .before .before .before .args .self in
     let out = c .before .before .before .before .before .before .before .before .before .before .before .before .args .out .now in
     let lent = tail-lent (self .used) out _ (c .before .before .before .before .before .before .before .before .smaller .ensures) in
-    let told = told-done (written (c .before .before .before .before .before .before .before .before .before .before .before .before .args .choice) (c .before .before .before .before .before .before .before .before .before .before .before .before .args .rec) (length (take (length (c .before .before .before .before .before .before .before .before .before .before .before .before .args .out .now) - c .before .before .before .before .before .before .before .before .smaller .result) (drop (c .before .before .before .before .before .before .before .before .smaller .result) (c .before .before .before .before .before .before .before .before .before .before .before .before .args .out .now))))) _ (sym (c .before .before .before .before .before .before .write .ensures .0) ∙ ap writeAnswer (c .before .before .n .given .1)) in
-    let fits = written-fits (c .before .before .before .before .before .before .before .before .before .before .before .before .args .choice) (c .before .before .before .before .before .before .before .before .before .before .before .before .args .rec) _ (told .bytes) (told .is-done) in
-    omega (arith, fits, told .size, ap length lent, tail-length (self .used) out)
+    let made = stands (telegramFor (c .before .before .before .before .before .before .before .before .before .before .before .before .args .choice) (c .before .before .before .before .before .before .before .before .before .before .before .before .args .rec)) _ _ _ (c .before .before .before .before .before .before .write .ensures ∙ ap (λ a. (writeAnswer a, c .before .before .before .before .before .before .write .last .1 .1 .0)) (c .before .before .n .given .1)) in
+    omega (arith, within-done _ _ (made .bytes) (made .is-laid) .1, made .size, ap length lent, tail-length (self .used) out)
 
 enum-known-number : tie.Need-enum-known-number
 enum-known-number c = search needs
@@ -53,17 +51,16 @@ same-length c = search needs
 
 returns-2 : tie.Need-returns-2
 returns-2 c =
-    one-stands (c .before .before .before .before .before .before .before .before .before .before .before .before .args .choice) (c .before .before .before .before .before .before .before .before .before .before .before .before .args .self) (c .before .before .before .before .before .before .before .before .before .before .before .before .args .rec) (c .before .before .before .before .before .before .before .before .before .before .before .before .args .out .now) (c .before .before .before .before .before .before .before .before .before .if1 .left) _ _
-    (c .before .before .before .before .before .before .before .before .smaller .ensures) (c .before .before .before .before .before .before .write .ensures .1) _ _ (c .wrapping-add-usize .ensures)
-    (sym (c .before .before .before .before .before .before .write .ensures .0) ∙ ap writeAnswer (c .before .before .n .given .1))
+    one-stands (c .before .before .before .before .before .before .before .before .before .before .before .before .args .choice) (c .before .before .before .before .before .before .before .before .before .before .before .before .args .self) (c .before .before .before .before .before .before .before .before .before .before .before .before .args .rec) (c .before .before .before .before .before .before .before .before .before .before .before .before .args .out .now) (c .before .before .before .before .before .before .before .before .before .if1 .left) _ _ _
+    (c .before .before .before .before .before .before .before .before .smaller .ensures) (c .before .before .before .before .before .before .write .ensures) _ _ (c .wrapping-add-usize .ensures) (ap writeAnswer (c .before .before .n .given .1))
 
 same-length-2 : tie.Need-same-length-2
 same-length-2 c = search needs
 
 returns-3 : tie.Need-returns-3
 returns-3 c =
-    one-stops (c .before .before .before .before .before .before .before .before .before .before .before .args .choice) (c .before .before .before .before .before .before .before .before .before .before .before .args .self) (c .before .before .before .before .before .before .before .before .before .before .before .args .rec) (c .before .before .before .before .before .before .before .before .before .before .before .args .out .now) (c .before .before .before .before .before .before .before .before .if1 .left) _ _
-    (c .before .before .before .before .before .before .before .smaller .ensures) (c .before .before .before .before .before .write .ensures .1) _ (sym (c .before .before .before .before .before .write .ensures .0) ∙ ap writeAnswer (c .before .number .given .1))
+    one-stops (c .before .before .before .before .before .before .before .before .before .before .before .args .choice) (c .before .before .before .before .before .before .before .before .before .before .before .args .self) (c .before .before .before .before .before .before .before .before .before .before .before .args .rec) (c .before .before .before .before .before .before .before .before .before .before .before .args .out .now) (c .before .before .before .before .before .before .before .before .if1 .left) _ _ _
+    (c .before .before .before .before .before .before .before .smaller .ensures) (c .before .before .before .before .before .write .ensures) _ (ap writeAnswer (c .before .number .given .1))
 
 pub add-spec : {M : Type 1} → statement M
 add-spec =

@@ -1,0 +1,3 @@
+pub mod InNumbersHolds
+pub mod LayingLaws
+pub mod TailLaws
