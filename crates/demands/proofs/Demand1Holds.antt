@@ -2,15 +2,18 @@
 use mathlib.Core.Path.{_≡_, refl, ap, sym, _∙_}
 use mathlib.Core.Bool.{Bool, true, false, not, _||_}
 use mathlib.Core.List.{List, [], _∷_, _++_, map}
-use Prim.Native.Nat.{ℕ, zero, suc, _+_, _-_, _≤_}
+use Prim.Native.Nat.{ℕ, _+_, _-_, _≤_}
 use native.Mathlib.Omega.{arith}
-use lib.Dec.{leb, ltb, eqb}
-use lib.ListN.{length, take, drop, take-append-drop}
-use borrow.Author.Tests.{ltb-true, ltb-false, leb-true, leb-false, le-leb, lt-leb, eqb-true, eqb-false}
+use lib.Dec.{leb, ltb}
+use lib.ListN.{length, take, drop, length-drop, take-append-drop}
+use borrow.Author.Tests.{ltb-true, ltb-false, leb-true, leb-false, le-leb, lt-leb}
 use Rattle.refusals.specs.Refusals.{_when_, _else_, Outcome, done, refused, unless, after}
 use Rattle.refusals.proofs.Laws.{else-assoc}
-use Rattle.laying.specs.Laying.{laidIn}
-use Rattle.laying.proofs.LayingLaws.{refused-is-untouched}
+use Rattle.laying.specs.declared.Ending.{Ending}
+use Rattle.laying.specs.declared.Ending.the-variants as ending
+use Rattle.laying.specs.Laying.{sizeOf, laid}
+use Rattle.laying.specs.Answers.{endingAnswer}
+use Rattle.laying.proofs.LayingLaws.{laid-answer, stops, refused-is-untouched}
 use Rattle.calendar.specs.Ranges.{inside}
 use Rattle.calendar.specs.Calendar.{dateInRange, dayExists, dateRefusal, monthInRange, monthLength, dayOf, dateAt, dayAfter, isLastDay, dayNumber, dateOf, nextDay}
 use Rattle.calendar.specs.TimeOfDay.{timeInRange, timeRefusal, secondsOf, timeAfter, isLastSecond, secondOfDay, nextSecond}
@@ -28,15 +31,15 @@ use Rattle.telegram.specs.declared.write.Choice.{Choice}
 use Rattle.telegram.specs.declared.write.Choice.the-variants.{Named, Unnamed}
 use Rattle.telegram.specs.declared.several.Several.{Several}
 use Rattle.telegram.specs.Reading.{bodyOf, carried, readOf}
-use Rattle.telegram.specs.Writing.{telegramFor, written, oneMore, bufferAfter}
-use Rattle.telegram.proofs.SeveralLaws.{ended-before, goes-in, goes-into}
+use Rattle.telegram.specs.Writing.{telegramFor, written, severalAfter}
+use Rattle.telegram.proofs.SeveralLaws.{oneMore, ended-before, one-more}
 use Rattle.clock.specs.Stepping.{stepOf}
 use Rattle.clock.specs.Answers.{stepAnswer}
 use Rattle.clock.proofs.StepLaws.{refused-is-unchanged}
 use Rattle.board.specs.Switches.{byteOf}
 use Rattle.board.specs.Of6036.{offered, switchesFor, byteFor}
 use Rattle.demands.specs.Lengths.{sevenLayouts, lengthOf}
-use Rattle.demands.specs.Numbers.{_givenWhen_, firstOf, among, _refusedBy_}
+use Rattle.demands.specs.Numbers.{_givenWhen_, firstOf, among, _refusedBy_, _byFirst_}
 use Rattle.demands.specs.Rules.{placeRules, dateRules, recordRules, rulesIn, readingRules, nextSecondRules, writingRules, countRules, utcRules, stepRules}
 use Rattle.demands.specs.Demand1.{ReadingRefuses, TheLayoutRefuses, ScanningRefuses, WritingRefuses, WritingOneMoreRefuses, TheFirstRefusalEndsIt, TheRuleRefuses, TheNextSecondRefuses, CountingRefuses, TheSeasonShiftRefuses, UtcSecondsRefuse, TheStepRefuses, TheParameterByteRefuses, TheCalendarRefuses, ARefusedTelegramChangesNoByte, ARefusedOneMoreChangesNoByte, ARefusedClockComesBackUnchanged}
 use Rattle.demands.proofs.Refusing.{else-nothing, by-lowest, unless-by, tested, refuses, gives}
@@ -91,42 +94,50 @@ pub demand-1-writing : WritingRefuses
 demand-1-writing choice rec room =
     refuses inWriting (written choice rec room) (writingRules choice rec room) (writing-rules choice rec room) (writing-tested choice rec room)
 
-refusal-told : (several : Several) (w : Outcome (List ℕ)) (n : ℕ) → after w (λ v. done tt) ≡ unless {A = Unit {0}} n tt → oneMore several w .refusal ≡ n
-unfolding unless
-refusal-told several (done bytes) zero e = refl
-refusal-told several (done bytes) (suc n) e = let z : _≡_ {A = ℕ} 0 1 = cc in absurd (omega arith)
-refusal-told several (refused k) zero e = let z : _≡_ {A = ℕ} 0 1 = cc in absurd (omega arith)
-refusal-told several (refused k) (suc n) e = cc
+-- one more goes into the room after the last, and ends as its write does
+ends-so : (several : Several) (w : Outcome (List ℕ)) → after {B = Unit {0}} (endingAnswer (oneMore several (sizeOf w) .ending)) (λ v. done tt) ≡ after w (λ v. done tt)
+ends-so several (done bytes) = refl
+ends-so several (refused n) = refl
+
+ending-so : (choice : Choice) (several : Several) (rec : Record) (buffer : List ℕ) → several .ending ≡ ending.Whole
+    → endingAnswer (severalAfter choice several (rec ∷ []) buffer .0 .ending) byFirst writingRules choice rec (length buffer - several .used)
+ending-so choice several rec buffer whole =
+    let tail = drop (several .used) buffer in
+    ap (λ s. after (endingAnswer (s .0 .ending)) (λ v. done tt)) (one-more choice several buffer whole rec _ _ refl)
+    ∙ ap (λ a. after (endingAnswer (oneMore several a .ending)) (λ v. done tt)) (laid-answer (telegramFor choice rec) tail)
+    ∙ ends-so several (written choice rec (length tail))
+    ∙ ap (λ k. after (written choice rec k) (λ v. done tt)) (length-drop (several .used) buffer)
+    ∙ writing-rules choice rec (length buffer - several .used)
 
 pub demand-1-one-more : WritingOneMoreRefuses
-demand-1-one-more choice several rec buffer none =
+demand-1-one-more choice several rec buffer whole =
     let room = length buffer - several .used in
-    gives inWriting _ (writingRules choice rec room)
-    (ap (λ s. s .refusal) (goes-in choice several rec buffer none) ∙ refusal-told several (written choice rec room) _ (writing-rules choice rec room))
+    refuses inWriting (endingAnswer (severalAfter choice several (rec ∷ []) buffer .0 .ending)) (writingRules choice rec room) (ending-so choice several rec buffer whole)
     (writing-tested choice rec room)
 
 pub demand-1-first-refusal : TheFirstRefusalEndsIt
-demand-1-first-refusal choice several rec buffer some = sym (ended-before choice several rec buffer some .0)
+demand-1-first-refusal choice several rec buffer n is = ended-before choice several buffer (rec ∷ []) n is
 
 pub demand-1-no-byte : ARefusedTelegramChangesNoByte
 demand-1-no-byte choice rec buffer n e = refused-is-untouched (telegramFor choice rec) buffer n e
 
 pub demand-1-no-byte-of-several : ARefusedOneMoreChangesNoByte
-demand-1-no-byte-of-several choice several rec buffer some = go (eqb (several .refusal) 0) refl
+demand-1-no-byte-of-several choice several rec buffer n is = go (several .ending) refl
   where
-    room : ℕ
-    room = length buffer - several .used
+    tail : List ℕ
+    tail = drop (several .used) buffer
 
-    laid-in : (w : Outcome (List ℕ)) → (oneMore several w .refusal ≡ 0 → ⊥) → take (several .used) buffer ++ laidIn w (drop (several .used) buffer) ≡ buffer
-    laid-in (done bytes) h = absurd (h refl)
-    laid-in (refused n) h = take-append-drop (several .used) buffer
+    laid-in : (answer : Outcome ℕ) (last : List ℕ) → laid (telegramFor choice rec) tail ≡ (answer, last) → oneMore several answer .ending ≡ ending.Refused n
+        → take (several .used) buffer ++ last ≡ buffer
+    laid-in (done k) last told e = let z : _≡_ {A = ℕ} 0 1 = cc in absurd (omega arith)
+    laid-in (refused k) last told e =
+        ap (_++_ (take (several .used) buffer)) (stops (telegramFor choice rec) tail k last told .1) ∙ take-append-drop (several .used) buffer
 
-    go : (t : Bool) → eqb (several .refusal) 0 ≡ t → bufferAfter choice several rec buffer ≡ buffer
-    go true e =
-        let none = eqb-true (several .refusal) 0 e in
-        goes-into choice several rec buffer none
-        ∙ laid-in (written choice rec room) (λ z. some (ap (λ s. s .refusal) (goes-in choice several rec buffer none) ∙ z))
-    go false e = sym (ended-before choice several rec buffer (eqb-false (several .refusal) 0 e) .1)
+    go : (end : Ending) → several .ending ≡ end → severalAfter choice several (rec ∷ []) buffer .1 ≡ buffer
+    go ending.Whole whole =
+        let so = one-more choice several buffer whole rec _ _ refl in
+        ap (λ s. s .1) so ∙ laid-in _ _ refl (ap (λ s. s .0 .ending) (sym so) ∙ is)
+    go (ending.Refused k) ended = ap (λ s. s .1) (ended-before choice several buffer (rec ∷ []) k ended)
 
 -- a record, its next second, its UTC seconds, and the station clock
 pub demand-1-rule : TheRuleRefuses

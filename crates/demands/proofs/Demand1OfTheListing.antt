@@ -8,19 +8,19 @@ use lib.ListN.{length}
 use Rattle.refusals.specs.Refusals.{_when_, Outcome, done, refused, unless, after}
 use Rattle.laying.specs.declared.Ending.the-variants as ending
 use Rattle.laying.specs.Laying.{sizeOf, laid}
+use Rattle.laying.specs.OneBehindAnother.{endingIn}
 use Rattle.laying.proofs.LayingLaws.{within-unless, within-refused, laid-answer, refused-is-untouched}
 use Rattle.record.specs.declared.Record.the-variants.{Dated, TimeOnly}
 use Rattle.record.specs.declared.RecordAnswer.{RecordAnswer}
 use Rattle.record.specs.declared.RecordAnswer.the-variants as answer
 use Rattle.record.specs.Rule.{refusalOf}
-use Rattle.line.specs.declared.Heard.{Heard}
 use Rattle.line.specs.Line.{Line, wellFormed, lineOf}
 use Rattle.line.specs.Cuts.{eventsOf}
 use Rattle.line.proofs.ReaderLaws.{reader-back}
 use Rattle.line.proofs.StaysGood.{good-line}
 use Rattle.listing.specs.Listing.{headerRow, recordRow, refusedRow, eventRow, strayRow}
 use Rattle.pages.specs.Pages.{rowFor, pageOf}
-use Rattle.pages.specs.Whole.{rowsOf, endingIn}
+use Rattle.pages.specs.Whole.{rowsOf}
 use Rattle.pages.proofs.PageLaws.{nothing-laid, refused-laid, page-refused}
 use Rattle.pages.proofs.RoomLaws.{call-ends-by-room}
 use Rattle.demands.specs.Numbers.{_givenWhen_, _refusedBy_, _byFirst_}

@@ -9,13 +9,14 @@ use Prim.Native.Nat.{ℕ, _-_}
 use lib.Dec.{leb}
 use lib.ListN.{length}
 use Rattle.refusals.specs.Refusals.{refused}
+use Rattle.laying.specs.declared.Ending.the-variants as ending
 use Rattle.laying.specs.Laying.{laid}
+use Rattle.laying.specs.Answers.{endingAnswer}
 use Rattle.calendar.specs.Calendar.{monthInRange, isLastDay, daysInMonth, dayNumber, dateOf, nextDay}
 use Rattle.calendar.specs.TimeOfDay.{timeInRange, secondOfDay, nextSecond}
 use Rattle.calendar.specs.declared.date.Date.{Date}
 use Rattle.calendar.specs.declared.time.Time.{Time}
 use Rattle.record.specs.declared.Record.{Record}
-use Rattle.record.specs.declared.RecordAnswer.{RecordAnswer}
 use Rattle.record.specs.declared.season.LocalSeconds.{LocalSeconds}
 use Rattle.record.specs.Season.{toUtc}
 use Rattle.record.specs.Rule.{refusalOf}
@@ -24,7 +25,7 @@ use Rattle.record.specs.Utc.{countOf, utcSeconds}
 use Rattle.telegram.specs.declared.write.Choice.{Choice}
 use Rattle.telegram.specs.declared.several.Several.{Several}
 use Rattle.telegram.specs.Reading.{readOf}
-use Rattle.telegram.specs.Writing.{telegramFor, written, severalAfter, bufferAfter}
+use Rattle.telegram.specs.Writing.{telegramFor, written, severalAfter}
 use Rattle.line.specs.declared.Reader.{Reader}
 use Rattle.line.specs.declared.Heard.the-variants.{Refused}
 use Rattle.line.specs.Line.{wellFormed, AsDeclared, feedReader, endReader}
@@ -67,14 +68,14 @@ WritingRefuses =
 -- one telegram more behind others, into the room after the last: the same; "the first refusal ends it"
 abbrev pub WritingOneMoreRefuses : Type 0
 WritingOneMoreRefuses =
-    (choice : Choice) (several : Several) (rec : Record) (buffer : List ℕ) → several .refusal ≡ 0
-    → (severalAfter choice several rec buffer .refusal ≡ lowest (writingRules choice rec (length buffer - several .used)))
-    × (severalAfter choice several rec buffer .refusal noneOr 5 ∷ 6 ∷ 7 ∷ 8 ∷ 12 ∷ 13 ∷ 14 ∷ [])
+    (choice : Choice) (several : Several) (rec : Record) (buffer : List ℕ) → several .ending ≡ ending.Whole
+    → (endingAnswer (severalAfter choice several (rec ∷ []) buffer .0 .ending) refusedBy writingRules choice rec (length buffer - several .used))
+    × (endingAnswer (severalAfter choice several (rec ∷ []) buffer .0 .ending) doneOr 5 ∷ 6 ∷ 7 ∷ 8 ∷ 12 ∷ 13 ∷ 14 ∷ [])
 
 abbrev pub TheFirstRefusalEndsIt : Type 0
 TheFirstRefusalEndsIt =
-    (choice : Choice) (several : Several) (rec : Record) (buffer : List ℕ) → (several .refusal ≡ 0 → ⊥)
-    → severalAfter choice several rec buffer ≡ several
+    (choice : Choice) (several : Several) (rec : Record) (buffer : List ℕ) (n : ℕ) → several .ending ≡ ending.Refused n
+    → severalAfter choice several (rec ∷ []) buffer ≡ (several, buffer)
 
 -- the rule for a record: 5 to 8
 abbrev pub TheRuleRefuses : Type 0
@@ -150,8 +151,8 @@ ARefusedTelegramChangesNoByte =
 -- nor among several, where the earlier ones stay as they are
 abbrev pub ARefusedOneMoreChangesNoByte : Type 0
 ARefusedOneMoreChangesNoByte =
-    (choice : Choice) (several : Several) (rec : Record) (buffer : List ℕ) → (severalAfter choice several rec buffer .refusal ≡ 0 → ⊥)
-    → bufferAfter choice several rec buffer ≡ buffer
+    (choice : Choice) (several : Several) (rec : Record) (buffer : List ℕ) (n : ℕ) → severalAfter choice several (rec ∷ []) buffer .0 .ending ≡ ending.Refused n
+    → severalAfter choice several (rec ∷ []) buffer .1 ≡ buffer
 
 -- "a refused state .. comes back unchanged": with 15, and "takes no byte, gives no event and nothing else"
 abbrev pub ARefusedStateComesBackUnchanged : Type 0

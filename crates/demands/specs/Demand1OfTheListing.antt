@@ -1,5 +1,5 @@
 -- Demand 1 of the listing: its rows, a piece's rows, and a state that is refused.
-use mathlib.Core.Bool.{Bool, false, cond}
+use mathlib.Core.Bool.{false, cond}
 use mathlib.Core.List.{List, [], _∷_, _++_}
 use mathlib.Core.Path.{_≡_}
 use Prim.Native.Nat.{ℕ}
@@ -8,6 +8,7 @@ use lib.ListN.{length}
 use Rattle.refusals.specs.Refusals.{done, refused}
 use Rattle.laying.specs.declared.Ending.the-variants as ending
 use Rattle.laying.specs.Laying.{laid}
+use Rattle.laying.specs.OneBehindAnother.{endingIn}
 use Rattle.record.specs.declared.RecordAnswer.{RecordAnswer}
 use Rattle.record.specs.declared.RecordAnswer.the-variants as answer
 use Rattle.line.specs.declared.Reader.{Reader}
@@ -17,7 +18,7 @@ use Rattle.line.specs.Line.{wellFormed, lineOf, AsDeclared}
 use Rattle.line.specs.Cuts.{eventsOf}
 use Rattle.listing.specs.Listing.{headerRow, recordRow, refusedRow, eventRow, strayRow}
 use Rattle.pages.specs.Pages.{rowFor, stopped, pageOf}
-use Rattle.pages.specs.Whole.{rowsOf, endingIn}
+use Rattle.pages.specs.Whole.{rowsOf}
 use Rattle.demands.specs.Numbers.{Rule, _givenWhen_, _refusedBy_, _doneOr_}
 use Rattle.demands.specs.Rules.{recordRules}
 

@@ -1,3 +1,4 @@
 pub mod InNumbersHolds
 pub mod LayingLaws
 pub mod TailLaws
+pub mod OneBehindAnotherLaws

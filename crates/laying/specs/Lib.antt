@@ -1,2 +1,4 @@
 pub mod Laying
+pub mod OneBehindAnother
+pub mod Answers
 pub mod InNumbers

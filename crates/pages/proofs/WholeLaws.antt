@@ -1,37 +1,33 @@
 -- What is laid for a line, however it is cut and whatever buffers are lent, is the listing of the line. Assumes nothing.
 use mathlib.Core.Path.{_≡_, refl, ap, ap₂, sym, _∙_, subst, subst⁻¹}
 use mathlib.Core.Bool.{Bool, true, false, cond}
-use mathlib.Core.List.{List, [], _∷_, _++_, append-assoc}
-use Prim.Native.Nat.{ℕ, zero, suc, _+_, _-_, _^_, _<_}
+use mathlib.Core.List.{List, [], _∷_, _++_, map, map-append, append-assoc, append-nil}
+use Prim.Native.Nat.{ℕ, _+_, _-_, _^_, _<_}
 use Prim.{Unit, tt}
 use native.Mathlib.Omega.{arith}
-use lib.Dec.{leb, ltb, eqb}
-use lib.ListN.{length, drop, replicate}
-use lib.Seq.{drop-drop, take-at}
+use lib.Dec.{leb, eqb}
+use lib.ListN.{length, drop}
 use Rattle.ascii.specs.Control.{stx, etx}
 use Rattle.refusals.specs.Refusals.{Outcome, done, refused}
 use Rattle.refusals.proofs.Laws.{does}
+use Rattle.laying.specs.OneBehindAnother.{part, joined, oneBehindAnother}
+use Rattle.laying.proofs.OneBehindAnotherLaws.{joined-behind, stands-by}
 use Rattle.record.specs.declared.Record.{Record}
 use Rattle.record.specs.Rule.{refusalOf}
 use Rattle.telegram.specs.Reading.{readOf}
 use Rattle.telegram.proofs.BackAndForth.{accepted-is-written}
 use Rattle.line.specs.declared.Reader.{Reader}
-use Rattle.line.specs.declared.Fed.{Fed}
 use Rattle.line.specs.declared.Heard.{Heard}
 use Rattle.line.specs.declared.Heard.the-variants.{Nothing, Event, Refused}
-use Rattle.line.specs.Line.{places, Line, Told, nothing, event, Feeding, stopOr, feedOf, toldBy, toldByEnd, step, startOf, readerOf, heardFor, fedFor, freshLine, freshReader, feedReader, endReader}
+use Rattle.line.specs.Line.{places, Line, Told, nothing, event, Feeding, stopOr, feedOf, toldBy, step, startOf, readerOf, heardFor, freshLine, freshReader, feedReader, endReader}
 use Rattle.line.specs.Cuts.{eventsOf, lineAfter, heardThen}
 use Rattle.line.proofs.StaysGood.{Good, good-feed, feed-good, end-good, reader-of-good}
 use Rattle.line.proofs.CutLaws.{feed-parts, events-join, after-join, good-after, good-fresh}
 use Rattle.listing.specs.Listing.{headerRow, recordRow, strayRow}
-use Rattle.laying.specs.Laying.{within}
-use Rattle.laying.proofs.LayingLaws.{within-cases}
-use Rattle.laying.specs.declared.Ending.{Ending}
-use Rattle.laying.specs.declared.Ending.the-variants as ending
-use Rattle.pages.specs.Pages.{rowFor, Page, stopped, rowThen, ifAny, pageBy, pageOf}
-use Rattle.pages.specs.Whole.{rowOfEvent, rowsOf, lastHeard, listingOf, Turns, turnsWith, Lent, bytesLent, rowsLaid, readerLeft, AllListed, WhatIsLaidIsTheListing}
+use Rattle.pages.specs.Pages.{rowFor, Underway, behindCall, nextRow, rowsIn, Page, pageOf}
+use Rattle.pages.specs.Whole.{rowOfEvent, rowsOf, listingOf, Turns, turnsWith, Lent, bytesLent, rowsLaid, readerLeft, AllListed, WhatIsLaidIsTheListing}
 use Rattle.pages.proofs.NumberLaws.{read-number}
-use Rattle.pages.proofs.PageLaws.{page-good}
+use Rattle.pages.proofs.PageLaws.{came, page-good, page-left}
 
 -- a record that the line hands out is good, and a number that it gives is a byte
 abbrev pub Sound : Told → Type 0
@@ -75,8 +71,7 @@ rows-then (Event answer start size) later = refl
 rows-then (Refused number) later = refl
 
 rows-join : (a b : List Heard) → rowsOf (a ++ b) ≡ rowsOf a ++ rowsOf b
-rows-join [] b = refl
-rows-join (heard ∷ a) b = ap (_++_ (rowOfEvent heard)) (rows-join a b) ∙ sym (append-assoc (rowOfEvent heard) (rowsOf a) (rowsOf b))
+rows-join a b = ap joined (map-append rowOfEvent a b) ∙ joined-behind (map rowOfEvent a) (map rowOfEvent b)
 
 -- a line that goes on where the bytes laid and what is left of the piece say: together they make the whole
 pub record GoesOn (line : Line) (piece laid : List ℕ) (reader : Reader) (rest : List ℕ) : Type 0 where
@@ -89,57 +84,48 @@ pub record GoesOn (line : Line) (piece laid : List ℕ) (reader : Reader) (rest 
 abbrev pub Continues : Line → List ℕ → Page → Type 0
 Continues line piece page = GoesOn line piece (page .bytes) (page .reader) (drop (page .taken) piece)
 
-stays : (line : Line) (piece : List ℕ) (end : Ending) → Good line → Continues line piece (stopped (readerOf line) end)
-stays line piece end good = record { next = line; good = good; is = refl; rows = refl; ends = refl }
+-- one row more
+row-continues : (here rest left : Underway) (bytes : List ℕ) (parts : List (List ℕ)) → nextRow here ≡ part (done bytes) rest
+    → ((line : Line) → Good line → rest .reader ≡ readerOf line → GoesOn line (rest .rest) (joined parts) (left .reader) (left .rest))
+    → (line : Line) → Good line → here .reader ≡ readerOf line → GoesOn line (here .rest) (bytes ++ joined parts) (left .reader) (left .rest)
+row-continues here rest left bytes parts comes later line good is =
+    let feeding = feedOf line (here .rest) in
+    let heard = heardFor (feeding .told) (feeding .at) in
+    let of-it = came here rest (done bytes) comes in
+    let fed = ap (λ reader. feedReader reader (here .rest)) is ∙ feed-good line good (here .rest) in
+    let behind : rest ≡ record { reader = readerOf (feeding .line); rest = drop (feeding .taken) (here .rest) } =
+    sym (of-it .behind) ∙ ap (λ f. behindCall f (here .rest)) fed in
+    let told : done (rowOfEvent heard) ≡ done bytes =
+    sym (row-told (feeding .told) (feeding .at) (sound-feed line (here .rest))) ∙ ap (λ f. rowFor (f .heard)) (sym fed) ∙ of-it .row in
+    let row : rowOfEvent heard ≡ bytes = cc in
+    let on = later (feeding .line) (good-feed line (here .rest) good) (ap (λ u. u .reader) behind) in
+    let left-is = ap (λ u. u .rest) behind in
+    let splits = feed-parts line (here .rest) in
+    record {
+      next = on .next;
+      good = on .good;
+      is = on .is;
+      rows =
+          ap rowsOf (splits .0)
+          ∙ rows-then heard (eventsOf (feeding .line) (drop (feeding .taken) (here .rest)))
+          ∙ ap₂ (λ a b. a ++ rowsOf (eventsOf (feeding .line) b)) row (sym left-is)
+          ∙ ap (_++_ bytes) (on .rows)
+          ∙ sym (append-assoc bytes (joined parts) (rowsOf (eventsOf (on .next) (left .rest))));
+      ends = splits .1 ∙ ap (lineAfter (feeding .line)) (sym left-is) ∙ on .ends;
+    }
 
--- one row more, where it fits
-module _ (line : Line) (good : Good line) (piece : List ℕ) (room : ℕ) (later : ℕ → Page)
-    (on : (size : ℕ) → Continues (feedOf line piece .line) (drop (feedOf line piece .taken) piece) (later size)) where
-  abbrev heard : Heard
-  heard = heardFor (feedOf line piece .told) (feedOf line piece .at)
-
-  fits-or-not : (short : Bool) → Continues line piece (rowThen (cond short (refused 13) (done (rowOfEvent heard))) (readerOf line) (fedFor (feedOf line piece)) later)
-  fits-or-not true = stays line piece (ending.Refused 13) good
-  fits-or-not false =
-      let row = rowOfEvent heard in
-      let size = length row in
-      let taken = feedOf line piece .taken in
-      let splits = feed-parts line piece in
-      let left = drop-drop (later size .taken) taken piece in
-      record {
-        next = on size .next;
-        good = on size .good;
-        is = on size .is;
-        rows =
-            ap rowsOf (splits .0)
-            ∙ rows-then heard (eventsOf (feedOf line piece .line) (drop taken piece))
-            ∙ ap (_++_ row) (on size .rows)
-            ∙ sym (append-assoc row (later size .bytes) (rowsOf (eventsOf (on size .next) (drop (later size .taken) (drop taken piece)))))
-            ∙ ap (λ rest. (row ++ later size .bytes) ++ rowsOf (eventsOf (on size .next) rest)) left;
-        ends = splits .1 ∙ on size .ends ∙ ap (lineAfter (on size .next)) left;
-      }
-
-  row-continues : Continues line piece (rowThen (within room (rowFor heard)) (readerOf line) (fedFor (feedOf line piece)) later)
-  row-continues =
-      subst⁻¹ (λ outcome. Continues line piece (rowThen (within room outcome) (readerOf line) (fedFor (feedOf line piece)) later))
-      (row-told (feedOf line piece .told) (feedOf line piece .at) (sound-feed line piece))
-      (subst⁻¹ (λ outcome. Continues line piece (rowThen outcome (readerOf line) (fedFor (feedOf line piece)) later)) (within-cases room (rowOfEvent heard))
-      (fits-or-not (ltb room (length (rowOfEvent heard)))))
-
-pub page-continues : (calls room : ℕ) (line : Line) → Good line → (piece : List ℕ) → Continues line piece (pageBy calls room (readerOf line) piece)
-unfolding pageBy
-page-continues zero room line good piece = stays line piece ending.Whole good
-page-continues (suc calls) room line good [] = stays line [] ending.Whole good
-page-continues (suc calls) room line good (byte ∷ piece) =
-    let feeding = feedOf line (byte ∷ piece) in
-    let rest = drop (feeding .taken) (byte ∷ piece) in
-    subst⁻¹ (λ fed. Continues line (byte ∷ piece) (rowThen (within room (rowFor (fed .heard))) (readerOf line) fed (λ size. pageBy calls (room - size) (fed .reader) (drop (fed .taken) (byte ∷ piece)))))
-    (feed-good line good (byte ∷ piece))
-    (row-continues line good (byte ∷ piece) room (λ size. pageBy calls (room - size) (readerOf (feeding .line)) rest) (λ size. page-continues calls (room - size) (feeding .line) (good-feed line (byte ∷ piece) good) rest))
+pub rows-continue : (n room : ℕ) (here : Underway) (line : Line) → Good line → here .reader ≡ readerOf line
+    → GoesOn line (here .rest) (joined (oneBehindAnother nextRow n room here .parts)) (oneBehindAnother nextRow n room here .left .reader) (oneBehindAnother nextRow n room here .left .rest)
+rows-continue =
+    stands-by nextRow (λ here parts left. (line : Line) → Good line → here .reader ≡ readerOf line → GoesOn line (here .rest) (joined parts) (left .reader) (left .rest))
+    (λ here line good is. record { next = line; good = good; is = is; rows = refl; ends = refl }) row-continues
 
 pub call-continues : (room : ℕ) (line : Line) → Good line → (piece : List ℕ) → Continues line piece (pageOf room (readerOf line) piece)
 call-continues room line good piece =
-    subst⁻¹ (Continues line piece) (page-good room (readerOf line) piece (reader-of-good line good)) (page-continues (length piece) room line good piece)
+    let standing = rowsIn room (readerOf line) piece in
+    subst⁻¹ (Continues line piece) (page-good room (readerOf line) piece (reader-of-good line good))
+    (subst⁻¹ (GoesOn line piece (joined (standing .parts)) (standing .left .reader)) (page-left room (readerOf line) piece)
+    (rows-continue (length piece) room (record { reader = readerOf line; rest = piece }) line good refl))
 
 -- any number of turns on one piece
 abbrev TurnsOn : Line → List ℕ → Turns → Type 0
@@ -164,10 +150,6 @@ turns-continue (room ∷ rooms) line good piece =
     }
 
 -- and a whole line
-append-none : (laid : List ℕ) → laid ++ [] ≡ laid
-append-none [] = refl
-append-none (byte ∷ laid) = ap (_∷_ byte) (append-none laid)
-
 pub line-listed : (lents : List Lent) (line : Line) (reader : Reader) → Good line → reader ≡ readerOf line → AllListed reader lents
     → (rowsLaid reader lents ≡ rowsOf (eventsOf line (bytesLent lents))) × (readerLeft reader lents ≡ readerOf (lineAfter line (bytesLent lents)))
 line-listed [] line reader good is used = (refl, is)
@@ -176,7 +158,7 @@ line-listed (lent ∷ others) line reader good is used =
     let here = subst⁻¹ (λ r. TurnsOn line (lent .piece) (turnsWith (lent .rooms) r (lent .piece))) is (turns-continue (lent .rooms) line good (lent .piece)) in
     let after : lineAfter line (lent .piece) ≡ here .next = here .ends ∙ ap (lineAfter (here .next)) (used .0) in
     let laid : rowsOf (eventsOf line (lent .piece)) ≡ turns .laid =
-    here .rows ∙ ap (λ rest. turns .laid ++ rowsOf (eventsOf (here .next) rest)) (used .0) ∙ append-none (turns .laid) in
+    here .rows ∙ ap (λ rest. turns .laid ++ rowsOf (eventsOf (here .next) rest)) (used .0) ∙ append-nil (turns .laid) in
     let on = line-listed others (lineAfter line (lent .piece)) (turns .reader) (good-after line (lent .piece) good) (here .is ∙ ap readerOf (sym after)) (used .1) in (
       ap₂ _++_ (sym laid) (on .0)
           ∙ sym (rows-join (eventsOf line (lent .piece)) (eventsOf (lineAfter line (lent .piece)) (bytesLent others)))

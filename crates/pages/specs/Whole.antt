@@ -1,11 +1,10 @@
 -- Document 01, "Listing, whole": the listing of a line, and a caller that lays it piece by piece.
-use mathlib.Core.Bool.{cond}
 use mathlib.Core.List.{List, [], _∷_, _++_, map}
 use mathlib.Core.Path.{_≡_}
 use Prim.Native.Nat.{ℕ, _%_, _^_, _≤_}
 use Prim.{Unit}
-use lib.Dec.{ltb}
 use lib.ListN.{length, drop, replicate}
+use Rattle.laying.specs.OneBehindAnother.{joined}
 use Rattle.record.specs.declared.RecordAnswer.the-variants as answer
 use Rattle.line.specs.declared.Reader.{Reader}
 use Rattle.line.specs.declared.Heard.{Heard}
@@ -13,8 +12,6 @@ use Rattle.line.specs.declared.Heard.the-variants.{Nothing, Event, Refused}
 use Rattle.line.specs.Line.{Line, freshLine, freshReader, toldByEnd, startOf, heardFor, endReader}
 use Rattle.line.specs.Cuts.{eventsOf, lineAfter}
 use Rattle.listing.specs.Listing.{headerRow, recordRow, refusedRow, strayRow}
-use Rattle.laying.specs.declared.Ending.{Ending}
-use Rattle.laying.specs.declared.Ending.the-variants as ending
 use Rattle.pages.specs.Pages.{pageOf}
 
 -- a row for each event: the record that was read, or the number that it was refused with
@@ -25,8 +22,7 @@ rowOfEvent (Event (answer.Refused number) start size) = refusedRow start number
 rowOfEvent (Refused number) = []
 
 abbrev pub rowsOf : List Heard → List ℕ
-rowsOf [] = []
-rowsOf (heard ∷ others) = rowOfEvent heard ++ rowsOf others
+rowsOf events = joined (map rowOfEvent events)
 
 -- what the end of the line tells: 11 for the bytes held, if any
 abbrev pub lastHeard : Line → Heard
@@ -62,8 +58,7 @@ pub record Lent : Type 0 where
 
 -- the bytes of the line, the rows laid, the reader behind them; and that each piece was used up
 abbrev pub bytesLent : List Lent → List ℕ
-bytesLent [] = []
-bytesLent (lent ∷ others) = lent .piece ++ bytesLent others
+bytesLent lents = joined (map (λ lent. lent .piece) lents)
 
 abbrev pub rowsLaid : Reader → List Lent → List ℕ
 rowsLaid reader [] = []
@@ -97,7 +92,3 @@ lentWith room piece = record { piece = piece; rooms = replicate (length piece) r
 
 abbrev pub EveryCutCanBeListed : Type 0
 EveryCutCanBeListed = (room : ℕ) → 69 ≤ room → (pieces : List (List ℕ)) → AllListed freshReader (map (lentWith room) pieces)
-
--- 13 is given exactly where the lent buffer is shorter than the rows of the piece
-abbrev pub endingIn : ℕ → List ℕ → Ending
-endingIn room rows = cond (ltb room (length rows)) (ending.Refused 13) ending.Whole

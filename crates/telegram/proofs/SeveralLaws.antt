@@ -1,216 +1,162 @@
 -- Laws of several telegrams, one behind another. Assumes nothing.
 use mathlib.Core.Path.{_≡_, refl, ap, ap₂, sym, _∙_}
-use mathlib.Core.List.{List, [], _∷_, _++_, append-assoc, append-nil}
-use Prim.Native.Nat.{ℕ, suc, _+_, _-_, _%_, _^_, _≤_, _<_, min}
-use native.Mathlib.Nat.{add-zero, zero-add, add-assoc}
+use mathlib.Core.List.{List, [], _∷_, _++_, append-nil}
+use Prim.Native.Nat.{ℕ, _+_, _-_, _%_, _^_, _<_, min}
+use native.Mathlib.Nat.{add-zero}
 use native.Mathlib.Omega.{arith}
-use lib.ListN.{length, take, drop, length-append, length-drop, take-append-drop}
-use lib.Seq.{length-take-le, drop-drop, take-at, drop-at}
-use borrow.Author.Tests.{ne-eqb}
+use lib.ListN.{length, take, drop, length-append, length-drop}
 use borrow.Rule.Slice.PartMut.{putMid}
 use Rattle.refusals.specs.Refusals.{Outcome, done, refused}
-use Rattle.laying.specs.Laying.{laidIn, laid}
-use Rattle.laying.proofs.LayingLaws.{within-done, stands, stops}
-use Rattle.laying.proofs.TailLaws.{tail-lent, tail-back, tail-length}
+use Rattle.laying.specs.declared.Ending.{Ending}
+use Rattle.laying.specs.declared.Ending.the-variants.{Whole, Refused}
+use Rattle.laying.specs.Laying.{within, laidIn, laid}
+use Rattle.laying.specs.OneBehindAnother.{Standing, joined, partThen, oneBehindAnother}
+use Rattle.laying.proofs.LayingLaws.{stands, stops}
+use Rattle.laying.proofs.TailLaws.{tail-lent, tail-back}
+use Rattle.laying.proofs.OneBehindAnotherLaws.{no-part, first-part, Laying, Ended, none-yet, no-more, part-stops, part-stands}
 use Rattle.record.specs.declared.Record.{Record}
 use Rattle.telegram.specs.declared.write.Choice.{Choice}
 use Rattle.telegram.specs.declared.several.Several.{Several}
-use Rattle.telegram.specs.Writing.{telegramFor, written, noneYet, oneMore, severalAfter, bufferAfter, severalAll, andThen, standing, orElse, firstRefusal, joined}
-use Rattle.telegram.proofs.WriteLaws.{written-some}
+use Rattle.telegram.specs.Writing.{telegramFor, nextTelegram, telegramsIn, noneYet, withMore, unlessEnded, severalAfter, severalAll}
+
+-- how several stand with one telegram more
+abbrev pub oneMore : Several → Outcome ℕ → Several
+oneMore several (done n) = record { count = (several .count + 1) % 2 ^ 64; used = several .used + n; ending = Whole }
+oneMore several (refused number) = record { count = several .count % 2 ^ 64; used = several .used; ending = Refused number }
 
 -- the ways in which one more telegram ends
-module _ (choice : Choice) (several : Several) (rec : Record) (out : List ℕ) where
-  pub ended-before : (several .refusal ≡ 0 → ⊥) → (several ≡ severalAfter choice several rec out) × (out ≡ bufferAfter choice several rec out)
-  unfolding severalAfter bufferAfter
-  ended-before some = rw (ne-eqb (several .refusal) 0 some) (refl, refl)
+module _ (choice : Choice) (several : Several) (out : List ℕ) where
+  pub ended-before : (recs : List Record) (number : ℕ) → several .ending ≡ Refused number → severalAfter choice several recs out ≡ (several, out)
+  unfolding severalAfter
+  ended-before recs number is =
+      ap (λ end. unlessEnded end (withMore several out (telegramsIn choice (length out - several .used) recs)) (several, out)) is
 
-  module _ (none : several .refusal ≡ 0) where
-    pub goes-in : severalAfter choice several rec out ≡ oneMore several (written choice rec (length out - several .used))
-    unfolding severalAfter
-    goes-in = rw none
+  pub goes-on : (recs : List Record) → several .ending ≡ Whole
+      → severalAfter choice several recs out ≡ withMore several out (telegramsIn choice (length out - several .used) recs)
+  unfolding severalAfter
+  goes-on recs is =
+      ap (λ end. unlessEnded end (withMore several out (telegramsIn choice (length out - several .used) recs)) (several, out)) is
 
-    pub goes-into : bufferAfter choice several rec out
-        ≡ take (several .used) out ++ laidIn (written choice rec (length out - several .used)) (drop (several .used) out)
-    unfolding bufferAfter
-    goes-into = rw none
-
-    -- the tail lent from `start` on, and what a write left in it
-    module _ (start : ℕ) (last : List ℕ) (answer : Outcome ℕ) (begins : start ≡ min (several .used) (length out))
-        (told : laid (telegramFor choice rec) (take (length out - start) (drop start out)) ≡ (answer, last)) where
-      told-here : laid (telegramFor choice rec) (drop (several .used) out) ≡ (answer, last)
-      told-here = ap (laid (telegramFor choice rec)) (sym (tail-lent (several .used) out start begins)) ∙ told
-
-      same-room : written choice rec (length out - several .used) ≡ written choice rec (length (drop (several .used) out))
-      same-room = ap (written choice rec) (sym (tail-length (several .used) out))
-
-      pub one-stands : (n count : ℕ) → count ≡ (several .count + 1) % 2 ^ 64 → answer ≡ done n
-          → (record { count = count; used = several .used + n; refusal = 0 } ≡ severalAfter choice several rec out)
-          × (putMid start (length out - start) out last ≡ bufferAfter choice several rec out)
-      one-stands n count c is =
-          let d = stands (telegramFor choice rec) (drop (several .used) out) n last (told-here ∙ ap (λ a. (a, last)) is) in
-          let whole : record { count = count; used = several .used + n; refusal = 0 } ≡ oneMore several (done (d .bytes)) =
-          λ i. record { count = c i; used = several .used + sym (d .size) i; refusal = 0 } in
-          let made = same-room ∙ d .is-laid in
-          let laid-there = d .last-is ∙ ap (λ k. d .bytes ++ drop k (drop (several .used) out)) (sym (d .size)) in (
-            whole ∙ ap (oneMore several) (sym made) ∙ sym goes-in,
-            tail-back (several .used) out start last begins
-                ∙ ap (_++_ (take (several .used) out)) (laid-there ∙ ap (λ w. laidIn w (drop (several .used) out)) (sym made))
-                ∙ sym goes-into,
-          )
-
-      pub one-stops : (n : ℕ) → answer ≡ refused n
-          → (record { count = several .count; used = several .used; refusal = n } ≡ severalAfter choice several rec out)
-          × (putMid start (length out - start) out last ≡ bufferAfter choice several rec out)
-      one-stops n is =
-          let s = stops (telegramFor choice rec) (drop (several .used) out) n last (told-here ∙ ap (λ a. (a, last)) is) in
-          let made = same-room ∙ s .0 in (
-            ap (oneMore several) (sym made) ∙ sym goes-in,
-            tail-back (several .used) out start last begins
-                ∙ ap (_++_ (take (several .used) out)) (s .1 ∙ ap (λ w. laidIn w (drop (several .used) out)) (sym made))
-                ∙ sym goes-into,
-          )
-
--- A whole list: the telegrams that stand, one behind another, and then the untouched rest.
-length-joined : (bytes : List ℕ) (more : List (List ℕ)) → length (joined (bytes ∷ more)) ≡ length bytes + length (joined more)
-length-joined bytes more = length-append bytes (joined more)
-
--- after a refusal nothing changes any more
-all-ended : (choice : Choice) (recs : List Record) (several : Several) (out : List ℕ) → (several .refusal ≡ 0 → ⊥)
-    → severalAll choice recs several out ≡ (several, out)
-all-ended choice [] several out some = refl
-all-ended choice (rec ∷ recs) several out some =
-    let same = ended-before choice several rec out some in
-    ap₂ (λ s o. severalAll choice recs s o) (sym (same .0)) (sym (same .1)) ∙ all-ended choice recs several out some
-
-abbrev count-on : ℕ → ℕ → ℕ
-count-on count n = (count + n) % 2 ^ 64
-
--- a buffer with one more telegram behind the bytes used
-abbrev next : ℕ → List ℕ → List ℕ → List ℕ
-next used out bytes = take used out ++ (bytes ++ drop (length bytes) (drop used out))
-
-module _ (used : ℕ) (out bytes : List ℕ) (within : used ≤ length out) (fits : length bytes ≤ length out - used) where
-  front-length : length (take used out ++ bytes) ≡ used + length bytes
-  front-length = length-append (take used out) bytes ∙ ap (λ k. k + length bytes) (length-take-le used out within)
-
-  next-front : take used out ++ (bytes ++ drop (length bytes) (drop used out)) ≡ (take used out ++ bytes) ++ drop (used + length bytes) out
-  next-front =
-      sym (append-assoc (take used out) bytes _) ∙ ap (λ l. (take used out ++ bytes) ++ l) (drop-drop (length bytes) used out)
-
-  next-length : length (take used out ++ (bytes ++ drop (length bytes) (drop used out))) ≡ length out
-  next-length =
-      ap length next-front
-      ∙ length-append (take used out ++ bytes) (drop (used + length bytes) out)
-      ∙ omega (arith, front-length, length-drop (used + length bytes) out)
-
-  next-take : take (used + length bytes) (take used out ++ (bytes ++ drop (length bytes) (drop used out))) ≡ take used out ++ bytes
-  next-take = ap (take (used + length bytes)) next-front ∙ take-at (take used out ++ bytes) _ (used + length bytes) front-length
-
-  next-drop : (n : ℕ) → drop (used + length bytes + n) (take used out ++ (bytes ++ drop (length bytes) (drop used out))) ≡ drop (used + (length bytes + n)) out
-  next-drop n =
-      sym (drop-drop n (used + length bytes) _)
-      ∙ ap (λ l. drop n l)
-      (ap (drop (used + length bytes)) next-front ∙ drop-at (take used out ++ bytes) _ (used + length bytes) front-length)
-      ∙ drop-drop n (used + length bytes) out
-      ∙ ap (λ k. drop k out) (add-assoc used (length bytes) n)
-
--- how it stands in the end, from any number of telegrams that stand already
-abbrev ended : List (List ℕ) → ℕ → Several → List ℕ → Several × List ℕ
-ended telegrams first several out = (
-  record {
-    count = (several .count + length telegrams) % 2 ^ 64;
-    used = several .used + length (joined telegrams);
-    refusal = first;
-  },
-  take (several .used) out ++ joined telegrams ++ drop (several .used + length (joined telegrams)) out,
-)
-
-none-more : (several : Several) (out : List ℕ) (first : ℕ) → several .count < 2 ^ 64
-    → _≡_ {A = Several × List ℕ} (record { count = several .count; used = several .used; refusal = first }, out) (ended [] first several out)
-none-more several out first small =
-    let count : several .count ≡ (several .count + 0) % 2 ^ 64 = omega arith in
-    let whole : out ≡ take (several .used) out ++ [] ++ drop (several .used + 0) out =
-    sym (rw (add-zero, append-nil) (take-append-drop (several .used) out)) in
-    λ i. (record { count = count i; used = sym (add-zero (several .used)) i; refusal = first }, whole i)
-
-one-more : (several : Several) (out bytes : List ℕ) (telegrams : List (List ℕ)) (first : ℕ) → several .used ≤ length out → length bytes ≤ length out - several .used
-    → ended telegrams first (oneMore several (done bytes)) (next (several .used) out bytes)
-    ≡ ended (bytes ∷ telegrams) first several out
-one-more several out bytes telegrams first within fits =
-    let joined-length = length-joined bytes telegrams in
-    let count : ((several .count + 1) % 2 ^ 64 + length telegrams) % 2 ^ 64 ≡ (several .count + suc (length telegrams)) % 2 ^ 64 = omega arith in
-    let used : several .used + length bytes + length (joined telegrams) ≡ several .used + length (joined (bytes ∷ telegrams)) = omega arith in
-    let front = next-take (several .used) out bytes within fits in
-    let back = next-drop (several .used) out bytes within fits (length (joined telegrams)) ∙ ap (λ k. drop (several .used + k) out) (sym joined-length) in
-    let whole =
-    ap₂ (λ f b. f ++ joined telegrams ++ b) front back
-    ∙ ap (λ l. l ++ drop (several .used + length (joined (bytes ∷ telegrams))) out) (append-assoc (take (several .used) out) bytes (joined telegrams)) in
-    λ i. (record { count = count i; used = used i; refusal = first }, whole i)
-
-all-from : (choice : Choice) (recs : List Record) (several : Several) (out : List ℕ) → several .refusal ≡ 0 → several .count < 2 ^ 64
-    → several .used ≤ length out
-    → severalAll choice recs several out
-    ≡ ended (standing choice recs (length out - several .used)) (firstRefusal choice recs (length out - several .used)) several out
-all-from choice [] several out none small within =
-    (λ i. (record { count = several .count; used = several .used; refusal = none i }, out)) ∙ none-more several out 0 small
-all-from choice (rec ∷ recs) several out none small within =
-    go (written choice rec (length out - several .used)) refl
-    (λ bytes fits. all-from choice recs (oneMore several (done bytes)) (next (several .used) out bytes) refl (omega arith) (omega (arith, next-length (several .used) out bytes within fits)))
-  where
-    room : ℕ
+  module _ (whole : several .ending ≡ Whole) (rec : Record) (answer : Outcome ℕ) (last : List ℕ)
+      (told : laid (telegramFor choice rec) (drop (several .used) out) ≡ (answer, last)) where
+    abbrev room : ℕ
     room = length out - several .used
 
-    step : severalAll choice (rec ∷ recs) several out
-        ≡ severalAll choice recs (oneMore several (written choice rec room)) (take (several .used) out ++ laidIn (written choice rec room) (drop (several .used) out))
-    step = ap₂ (λ s o. severalAll choice recs s o) (goes-in choice several rec out none) (goes-into choice several rec out none)
+    abbrev behind : List ℕ → Standing (List Record)
+    behind bytes = oneBehindAnother (nextTelegram choice) 0 (room - length bytes) []
 
-    go : (w : Outcome (List ℕ)) → written choice rec room ≡ w
-        → ((bytes : List ℕ) → length bytes ≤ room
-        → severalAll choice recs (oneMore several (done bytes)) (next (several .used) out bytes)
-        ≡ ended (standing choice recs (length (next (several .used) out bytes) - (several .used + length bytes))) (firstRefusal choice recs (length (next (several .used) out bytes) - (several .used + length bytes))) (oneMore several (done bytes)) (next (several .used) out bytes))
-        → severalAll choice (rec ∷ recs) several out
-        ≡ ended (andThen w (λ bytes. standing choice recs (room - length bytes))) (orElse w (λ bytes. firstRefusal choice recs (room - length bytes))) several out
-    go (done bytes) e later =
-        let fits = within-done room (telegramFor choice rec) bytes e .1 in
-        let left : length (next (several .used) out bytes) - (several .used + length bytes) ≡ room - length bytes =
-        omega (arith, next-length (several .used) out bytes within fits) in
-        step
-        ∙ ap (λ w. severalAll choice recs (oneMore several w) (take (several .used) out ++ laidIn w (drop (several .used) out))) e
-        ∙ later bytes fits
-        ∙ ap (λ r. ended (standing choice recs r) (firstRefusal choice recs r) (oneMore several (done bytes)) (next (several .used) out bytes)) left
-        ∙ one-more several out bytes (standing choice recs (room - length bytes)) (firstRefusal choice recs (room - length bytes)) within fits
-    go (refused n) e later =
-        step
-        ∙ ap (λ w. severalAll choice recs (oneMore several w) (take (several .used) out ++ laidIn w (drop (several .used) out))) e
-        ∙ ap (severalAll choice recs (oneMore several (refused n))) (take-append-drop (several .used) out)
-        ∙ all-ended choice recs (oneMore several (refused n)) out (written-some choice rec room n e)
-        ∙ none-more several out n small
+    in-room : within room (telegramFor choice rec) ≡ within (length (drop (several .used) out)) (telegramFor choice rec)
+    in-room = ap (λ k. within k (telegramFor choice rec)) (sym (length-drop (several .used) out))
 
--- every list, from the start: what stands is the telegrams of the first records, one behind another, and behind them the buffer as it was
-pub several-stand : (choice : Choice) (recs : List Record) (out : List ℕ)
-    → severalAll choice recs noneYet out
-    ≡ (
-      record {
-        count = length (standing choice recs (length out)) % 2 ^ 64;
-        used = length (joined (standing choice recs (length out)));
-        refusal = firstRefusal choice recs (length out);
-      },
-      joined (standing choice recs (length out)) ++ drop (length (joined (standing choice recs (length out)))) out,
-    )
+    one-of : (made : Outcome (List ℕ)) → within (length (drop (several .used) out)) (telegramFor choice rec) ≡ made
+        → telegramsIn choice room (rec ∷ []) ≡ partThen made (rec ∷ []) behind
+    one-of made is =
+        first-part (nextTelegram choice) 0 room (rec ∷ []) (telegramFor choice rec) [] refl
+        ∙ ap (λ o. partThen o (rec ∷ []) behind) (in-room ∙ is)
+
+    stood : (n : ℕ) → answer ≡ done n → severalAfter choice several (rec ∷ []) out ≡ (oneMore several (done n), take (several .used) out ++ last)
+    stood n is =
+        let s = stands (telegramFor choice rec) (drop (several .used) out) n last (told ∙ ap (λ a. (a, last)) is) in
+        let one : telegramsIn choice room (rec ∷ []) ≡ record { parts = s .bytes ∷ []; left = []; ending = Whole } =
+        one-of (done (s .bytes)) (s .is-laid)
+        ∙ ap (λ later. partThen (done (s .bytes)) (rec ∷ []) (λ bytes. later)) (no-part (nextTelegram choice) 0 (room - length (s .bytes)) [] refl) in
+        let size : length (s .bytes ++ []) ≡ n = ap length (append-nil (s .bytes)) ∙ s .size in
+        let rest : laidIn (done (s .bytes ++ [])) (drop (several .used) out) ≡ last =
+        ap₂ (λ bytes k. bytes ++ drop k (drop (several .used) out)) (append-nil (s .bytes)) size ∙ sym (s .last-is) in
+        goes-on (rec ∷ []) whole
+        ∙ ap (withMore several out) one
+        ∙ (λ i. (record { count = (several .count + 1) % 2 ^ 64; used = several .used + size i; ending = Whole }, take (several .used) out ++ rest i))
+
+    stopped : (number : ℕ) → answer ≡ refused number
+        → severalAfter choice several (rec ∷ []) out ≡ (oneMore several (refused number), take (several .used) out ++ last)
+    stopped number is =
+        let s = stops (telegramFor choice rec) (drop (several .used) out) number last (told ∙ ap (λ a. (a, last)) is) in
+        goes-on (rec ∷ []) whole
+        ∙ ap (withMore several out) (one-of (refused number) (s .0))
+        ∙ (λ i. (record { count = add-zero (several .count) i % 2 ^ 64; used = add-zero (several .used) i; ending = Refused number }, take (several .used) out ++ sym (s .1) i))
+
+    pub one-more : severalAfter choice several (rec ∷ []) out ≡ (oneMore several answer, take (several .used) out ++ last)
+    one-more = go answer refl
+      where
+        go : (a : Outcome ℕ) → answer ≡ a → severalAfter choice several (rec ∷ []) out ≡ (oneMore several answer, take (several .used) out ++ last)
+        go (done n) is = stood n is ∙ ap (λ a. (oneMore several a, take (several .used) out ++ last)) (sym is)
+        go (refused n) is = stopped n is ∙ ap (λ a. (oneMore several a, take (several .used) out ++ last)) (sym is)
+
+-- the same with the tail lent from `start` on, and come back
+module _ (choice : Choice) (several : Several) (out : List ℕ) (whole : several .ending ≡ Whole) (rec : Record) (start : ℕ) (answer : Outcome ℕ) (last : List ℕ)
+    (begins : start ≡ min (several .used) (length out)) (told : laid (telegramFor choice rec) (take (length out - start) (drop start out)) ≡ (answer, last)) where
+  added : (more : Several) → oneMore several answer ≡ more → severalAfter choice several (rec ∷ []) out ≡ (more, putMid start (length out - start) out last)
+  added more is =
+      one-more choice several out whole rec answer last (ap (laid (telegramFor choice rec)) (sym (tail-lent (several .used) out start begins)) ∙ told)
+      ∙ ap₂ (λ s o. (s, o)) is (sym (tail-back (several .used) out start last begins))
+
+  pub one-stands : (n count : ℕ) → count ≡ (several .count + 1) % 2 ^ 64 → answer ≡ done n
+      → severalAfter choice several (rec ∷ []) out
+      ≡ (record { count = count; used = several .used + n; ending = Whole }, putMid start (length out - start) out last)
+  one-stands n count is told-so =
+      added _ (ap (oneMore several) told-so ∙ (λ i. record { count = sym is i; used = several .used + n; ending = Whole }))
+
+  pub one-stops : (number : ℕ) → several .count < 2 ^ 64 → answer ≡ refused number
+      → severalAfter choice several (rec ∷ []) out
+      ≡ (record { count = several .count; used = several .used; ending = Refused number }, putMid start (length out - start) out last)
+  one-stops number small told-so =
+      let same : several .count % 2 ^ 64 ≡ several .count = omega arith in
+      added _ (ap (oneMore several) told-so ∙ (λ i. record { count = same i; used = several .used; ending = Refused number }))
+
+-- A list, call by call. Once a refusal ended it, nothing changes.
+all-ended : (choice : Choice) (recs : List Record) (several : Several) (out : List ℕ) (number : ℕ) → several .ending ≡ Refused number
+    → severalAll choice recs several out ≡ (several, out)
+all-ended choice [] several out number is = refl
+all-ended choice (rec ∷ recs) several out number is =
+    ap (λ s. severalAll choice recs (s .0) (s .1)) (ended-before choice several out (rec ∷ []) number is) ∙ all-ended choice recs several out number is
+
+-- how a list stands in the end: the telegrams of its first records, one behind another, and behind them the buffer as it was
+abbrev pub stood-as : Standing (List Record) → List ℕ → Several × List ℕ
+stood-as standing first = (
+  record { count = length (standing .parts) % 2 ^ 64; used = length (joined (standing .parts)); ending = standing .ending },
+  joined (standing .parts) ++ drop (length (joined (standing .parts))) first,
+)
+
+module _ (choice : Choice) (standing : Standing (List Record)) (first : List ℕ) where
+  ends-as : (several : Several) (out : List ℕ) (parts : List (List ℕ)) (left : List Record) (end : Ending) → several .ending ≡ end
+      → several .count ≡ length parts % 2 ^ 64 → Ended (nextTelegram choice) standing parts first out left (several .used) end
+      → (several, out) ≡ stood-as standing first
+  ends-as several out parts left end is counted ended =
+      (λ i. (record { count = counted i; used = ended .size i; ending = is i }, (ended .buffer ∙ ap (λ k. joined parts ++ drop k first) (ended .size)) i))
+      ∙ ap (λ s. stood-as s first) (sym (ended .whole-is))
+
+  all-from : (recs : List Record) (several : Several) (out : List ℕ) (parts : List (List ℕ)) → several .ending ≡ Whole
+      → Laying (nextTelegram choice) standing (length recs) parts first out recs (several .used) → several .count ≡ length parts % 2 ^ 64
+      → severalAll choice recs several out ≡ stood-as standing first
+  all-from [] several out parts whole laying counted =
+      ends-as several out parts [] Whole whole counted (no-more (nextTelegram choice) standing 0 parts first out [] (several .used) laying refl)
+  all-from (rec ∷ recs) several out parts whole laying counted =
+      ap (λ s. severalAll choice recs (s .0) (s .1)) (one-more choice several out whole rec answer last refl)
+      ∙ go answer refl (λ bytes several out. all-from recs several out (parts ++ bytes ∷ []))
+    where
+      answer : Outcome ℕ
+      answer = laid (telegramFor choice rec) (drop (several .used) out) .0
+
+      last : List ℕ
+      last = laid (telegramFor choice rec) (drop (several .used) out) .1
+
+      go : (a : Outcome ℕ) → answer ≡ a
+          → ((bytes : List ℕ) (more : Several) (out : List ℕ) → more .ending ≡ Whole
+          → Laying (nextTelegram choice) standing (length recs) (parts ++ bytes ∷ []) first out recs (more .used)
+          → more .count ≡ length (parts ++ bytes ∷ []) % 2 ^ 64
+          → severalAll choice recs more out ≡ stood-as standing first)
+          → severalAll choice recs (oneMore several answer) (take (several .used) out ++ last) ≡ stood-as standing first
+      go (done n) is on =
+          let next = part-stands (nextTelegram choice) standing (length recs) parts first out (rec ∷ recs) (several .used) laying (telegramFor choice rec) recs refl answer last refl n is in
+          ap (λ a. severalAll choice recs (oneMore several a) (take (several .used) out ++ last)) is
+          ∙ on (next .0) (oneMore several (done n)) (take (several .used) out ++ last) refl (next .1) (omega (arith, counted, length-append parts (next .0 ∷ [])))
+      go (refused number) is on =
+          ap (λ a. severalAll choice recs (oneMore several a) (take (several .used) out ++ last)) is
+          ∙ all-ended choice recs (oneMore several (refused number)) (take (several .used) out ++ last) number refl
+          ∙ ends-as (oneMore several (refused number)) (take (several .used) out ++ last) parts (rec ∷ recs) (Refused number) refl (omega (arith, counted))
+          (part-stops (nextTelegram choice) standing (length recs) parts first out (rec ∷ recs) (several .used) laying (telegramFor choice rec) recs refl answer last refl number is)
+
+-- every list, from the start
+pub several-stand : (choice : Choice) (recs : List Record) (out : List ℕ) → severalAll choice recs noneYet out ≡ stood-as (telegramsIn choice (length out) recs) out
 several-stand choice recs out =
-    all-from choice recs noneYet out refl (omega arith) (omega arith)
-    ∙ ap (λ r. ended (standing choice recs r) (firstRefusal choice recs r) noneYet out) whole
-    ∙ (λ i. (
-      record {
-        count = zero-add (length telegrams) i % 2 ^ 64;
-        used = zero-add (length (joined telegrams)) i;
-        refusal = firstRefusal choice recs (length out);
-      },
-      joined telegrams ++ drop (zero-add (length (joined telegrams)) i) out,
-    ))
-  where
-    telegrams : List (List ℕ)
-    telegrams = standing choice recs (length out)
-
-    whole : length out - 0 ≡ length out
-    whole = omega arith
+    all-from choice (telegramsIn choice (length out) recs) out recs noneYet out [] refl (none-yet (nextTelegram choice) (length recs) out recs) refl

@@ -1,6 +1,6 @@
 -- The ways in which writing ends, over the definitions. Assumes nothing.
 use mathlib.Core.Path.{_≡_, refl, ap, ap₂, sym, _∙_}
-use mathlib.Core.Bool.{Bool, true, false, cond}
+use mathlib.Core.Bool.{Bool, true}
 use mathlib.Core.List.{List, [], _∷_, _++_, map, append-assoc, append-nil}
 use Prim.Native.Nat.{ℕ, suc, _+_, _-_, _≤_}
 use native.Mathlib.Numerals.{add-one, add-two}
@@ -9,22 +9,15 @@ use lib.ListN.{length, take, drop, set, length-append, length-drop, drop-of-leng
 use lib.Seq.{take-all, drop-cons, set-at}
 use borrow.Rule.Slice.PartMut.{putMid}
 use Rattle.refusals.specs.Refusals.{Outcome, done, refused, after}
-use Rattle.refusals.proofs.Laws.{refused-some}
-use Rattle.laying.specs.Laying.{within}
-use Rattle.laying.proofs.LayingLaws.{within-unless, within-refused}
 use Rattle.places.specs.Places.{place, render, over}
 use Rattle.places.proofs.Rendering.{length-render}
 use Rattle.record.specs.declared.Record.{Record}
-use Rattle.record.specs.declared.Record.the-variants.{Dated, TimeOnly}
-use Rattle.record.specs.Rule.{refusalOf}
-use Rattle.record.specs.Next.{recordAfter, nextSecondOf}
 use Rattle.layouts.specs.declared.rows.Span.{Span}
 use Rattle.layouts.specs.Layouts.{placesOf, allRows, spanOf, ownLayout}
 use Rattle.layouts.specs.Coding.{digitsOut}
 use Rattle.layouts.proofs.RowLaws.{span-row, span-ends, row-length}
-use Rattle.telegram.specs.Writing.{bodyBytes, telegramOf, judgedOf, as6021, recordToWrite, controlOf, telegramFor, written}
+use Rattle.telegram.specs.Writing.{bodyBytes, telegramOf, recordToWrite, controlOf, telegramFor}
 use Rattle.telegram.specs.declared.write.Choice.{Choice}
-use Rattle.telegram.specs.declared.write.Choice.the-variants.{Named, Unnamed}
 
 pub length-body : (rec : Record) → length (bodyBytes rec) ≡ length (placesOf (ownLayout rec))
 unfolding bodyBytes
@@ -96,27 +89,6 @@ module _ (bytes out last : List ℕ) (fits : length bytes + 2 ≤ length out)
   pub length-framing : length (putMid 1 (length (set out 0 2) - 1) (set out 0 2) last) ≡ length out
   length-framing = ap length (part-back out last (omega arith)) ∙ omega (arith, length-behind)
 
--- a record that is refused is refused with a number
-judged-some : (rec : Record) (k : ℕ) → judgedOf rec ≡ refused k → k ≡ 0 → ⊥
-judged-some rec k e = refused-some (refusalOf rec) k rec e
-
-as-6021-some : (rec : Record) (k : ℕ) → as6021 rec ≡ refused k → k ≡ 0 → ⊥
-as-6021-some (Dated layout status weekday date time) k e none = let z : _≡_ {A = ℕ} 0 1 = cc in absurd (omega arith)
-as-6021-some (TimeOnly layout time) k e none = let same : 14 ≡ k = cc in absurd (omega arith)
-
-record-some : (choice : Choice) (rec : Record) (k : ℕ) → recordToWrite choice rec ≡ refused k → k ≡ 0 → ⊥
-unfolding nextSecondOf
-record-some (Named setting) rec k = go (setting .advance)
-  where
-    go : (advance : Bool) → cond advance (nextSecondOf rec) (judgedOf rec) ≡ refused k → k ≡ 0 → ⊥
-    go true e = refused-some _ k (recordAfter rec) e
-    go false e = judged-some rec k e
-record-some Unnamed rec k = go (judgedOf rec) refl
-  where
-    go : (o : Outcome Record) → judgedOf rec ≡ o → after o as6021 ≡ refused k → k ≡ 0 → ⊥
-    go (done good) f e none = as-6021-some good k e none
-    go (refused m) f e none = judged-some rec m f (let same : m ≡ k = cc in same ∙ none)
-
 -- the record that a choice writes decides
 module _ (choice : Choice) (rec : Record) where
   pub telegram-refused : (k : ℕ) → recordToWrite choice rec ≡ refused k → telegramFor choice rec ≡ refused k
@@ -137,14 +109,3 @@ module _ (choice : Choice) (rec : Record) where
           → (good : Record) × (recordToWrite choice rec ≡ done good) × (telegramOf (controlOf choice) good ≡ bytes)
       go (done good) is e = (good, is, cc)
       go (refused n) is e = let z : _≡_ {A = ℕ} 0 1 = cc in absurd (omega arith)
-
-  -- and what is refused is refused with a number
-  pub written-some : (room k : ℕ) → written choice rec room ≡ refused k → k ≡ 0 → ⊥
-  unfolding telegramFor
-  written-some room k = go (recordToWrite choice rec) refl
-    where
-      go : (o : Outcome Record) → recordToWrite choice rec ≡ o → within room (after o (λ r. done (telegramOf (controlOf choice) r))) ≡ refused k → k ≡ 0 → ⊥
-      go (done r) f e none = refused-some _ k (telegramOf (controlOf choice) r) (sym (within-unless room (telegramOf (controlOf choice) r)) ∙ e) none
-      go (refused m) f e none =
-          let told = sym (within-refused room m) ∙ e in
-          record-some choice rec m f (let same : m ≡ k = cc in same ∙ none)

@@ -2,10 +2,12 @@
 use mathlib.Core.Bool.{Bool, false, cond}
 use mathlib.Core.List.{List, [], _∷_, _++_}
 use Prim.Native.Nat.{ℕ, _+_, _-_, _%_, _^_}
-use lib.Dec.{eqb}
 use lib.ListN.{length, take, drop}
 use Rattle.refusals.specs.Refusals.{Outcome, done, refused, unless, after}
+use Rattle.laying.specs.declared.Ending.{Ending}
+use Rattle.laying.specs.declared.Ending.the-variants.{Whole, Refused}
 use Rattle.laying.specs.Laying.{within, laidIn}
+use Rattle.laying.specs.OneBehindAnother.{Next, nothing, part, Standing, joined, oneBehindAnother}
 use Rattle.ascii.specs.Control.{stx, etx}
 use Rattle.places.specs.Places.{render}
 use Rattle.record.specs.declared.DatedLayout.the-variants.{L6021}
@@ -57,52 +59,42 @@ written choice rec room = within room (telegramFor choice rec)
 
 -- Several, one behind another.
 
+-- what comes next of a list: the telegram of its first record
+abbrev pub nextTelegram : Choice → List Record → Next (List Record)
+nextTelegram choice [] = nothing
+nextTelegram choice (rec ∷ recs) = part (telegramFor choice rec) recs
+
+-- the telegrams of a list, in a room of so many bytes
+abbrev pub telegramsIn : Choice → ℕ → List Record → Standing (List Record)
+telegramsIn choice room recs = oneBehindAnother (nextTelegram choice) (length recs) room recs
+
 -- nothing written yet
 abbrev pub noneYet : Several
-noneYet = record { count = 0; used = 0; refusal = 0 }
+noneYet = record { count = 0; used = 0; ending = Whole }
 
--- "each go into the room after the last"; the count runs free
-abbrev pub oneMore : Several → Outcome (List ℕ) → Several
-oneMore several (done bytes) =
-    record { count = (several .count + 1) % 2 ^ 64; used = several .used + length bytes; refusal = 0 }
-oneMore several (refused n) = record { count = several .count; used = several .used; refusal = n }
+-- more behind those that stand, and the buffer: how many stand, where the count runs free, how many bytes they take, and how it ended
+abbrev pub withMore : Several → List ℕ → Standing (List Record) → Several × List ℕ
+withMore several buffer more = (
+  record {
+    count = (several .count + length (more .parts)) % 2 ^ 64;
+    used = several .used + length (joined (more .parts));
+    ending = more .ending;
+  },
+  take (several .used) buffer ++ laidIn (done (joined (more .parts))) (drop (several .used) buffer),
+)
 
--- "the first refusal ends it, the earlier ones stay"
-unfoldable pub severalAfter : Choice → Several → Record → List ℕ → Several
-severalAfter choice several rec buffer =
-    cond (eqb (several .refusal) 0) (oneMore several (written choice rec (length buffer - several .used))) several
+-- once a refusal ended it, nothing changes
+abbrev pub unlessEnded : {A : Type 0} → Ending → A → A → A
+unlessEnded Whole more same = more
+unlessEnded (Refused number) more same = same
 
-unfoldable pub bufferAfter : Choice → Several → Record → List ℕ → List ℕ
-bufferAfter choice several rec buffer =
-    cond (eqb (several .refusal) 0)
-    (take (several .used) buffer ++ laidIn (written choice rec (length buffer - several .used)) (drop (several .used) buffer))
-    buffer
+-- a list of records, written into the room after the last
+unfoldable pub severalAfter : Choice → Several → List Record → List ℕ → Several × List ℕ
+severalAfter choice several recs buffer =
+    unlessEnded (several .ending) (withMore several buffer (telegramsIn choice (length buffer - several .used) recs)) (several, buffer)
 
--- a whole list, one after the other: how it stands in the end, and the buffer
+-- the same by one call for each record
 abbrev pub severalAll : Choice → List Record → Several → List ℕ → Several × List ℕ
 severalAll choice [] several buffer = (several, buffer)
 severalAll choice (rec ∷ recs) several buffer =
-    severalAll choice recs (severalAfter choice several rec buffer) (bufferAfter choice several rec buffer)
-
--- the telegrams that stand in a room of so many bytes: those of the first records, up to the first refusal
-abbrev pub andThen : Outcome (List ℕ) → (List ℕ → List (List ℕ)) → List (List ℕ)
-andThen (done bytes) next = bytes ∷ next bytes
-andThen (refused n) next = []
-
-abbrev pub standing : Choice → List Record → ℕ → List (List ℕ)
-standing choice [] room = []
-standing choice (rec ∷ recs) room = andThen (written choice rec room) (λ bytes. standing choice recs (room - length bytes))
-
--- and the refusal that ended it, 0 where there was none
-abbrev pub orElse : Outcome (List ℕ) → (List ℕ → ℕ) → ℕ
-orElse (done bytes) next = next bytes
-orElse (refused n) next = n
-
-abbrev pub firstRefusal : Choice → List Record → ℕ → ℕ
-firstRefusal choice [] room = 0
-firstRefusal choice (rec ∷ recs) room = orElse (written choice rec room) (λ bytes. firstRefusal choice recs (room - length bytes))
-
--- one behind another
-abbrev pub joined : List (List ℕ) → List ℕ
-joined [] = []
-joined (bytes ∷ more) = bytes ++ joined more
+    severalAll choice recs (severalAfter choice several (rec ∷ []) buffer .0) (severalAfter choice several (rec ∷ []) buffer .1)

@@ -2,17 +2,18 @@
 use super::write::Choice;
 use super::write::WriteAnswer;
 use super::write::write;
+use laying::Ending;
 use record::Record;
-use refusals::NONE;
 ghost use mathlib.Core.Path.{_≡_};
+ghost use mathlib.Core.List.{[], _∷_};
 ghost use Prim.Native.Nat.{min};
-ghost use Rattle.telegram.specs.Writing.{noneYet, severalAfter, bufferAfter};
+ghost use Rattle.telegram.specs.Writing.{noneYet, severalAfter};
 
-// How many telegrams stand, how many bytes they take, and the refusal that ended it, if any.
+// How many telegrams stand, how many bytes they take, and the refusal that ended it, if any: every number of a refusal ends it.
 pub struct Several {
     pub count: usize,
     pub used: usize,
-    pub refusal: u8,
+    pub ending: Ending,
 }
 
 fn smaller(a: usize, b: usize) -> usize
@@ -32,15 +33,16 @@ impl Several {
         Several {
             count: 0,
             used: 0,
-            refusal: NONE,
+            ending: Ending::Whole,
         }
     }
 
     // One more telegram, into the room after the last. Once one was refused, nothing more is written.
     pub fn add(self, rec: Record, choice: Choice, out: &mut [u8]) -> Several
-        ensures { λ r. ⌜ (r ≡ severalAfter choice self rec (now (out .entry))) × (now (out .exit) ≡ bufferAfter choice self rec (now (out .entry))) ⌝ }
+        ensures { λ r. ⌜ severalAfter choice self (rec ∷ []) (now (out .entry)) ≡ (r, now (out .exit)) ⌝ }
     {
-        if self.refusal != NONE {
+        let ending = self.ending;
+        if let Ending::Refused(_) = ending {
             return self;
         }
         let used = self.used;
@@ -49,12 +51,12 @@ impl Several {
             WriteAnswer::Written(n) => Several {
                 count: std::num::wrapping_add_usize(self.count, 1),
                 used: used + n,
-                refusal: NONE,
+                ending: Ending::Whole,
             },
             WriteAnswer::Refused(number) => Several {
                 count: self.count,
                 used,
-                refusal: number,
+                ending: Ending::Refused(number),
             },
         }
     }

@@ -1,6 +1,7 @@
 // How an outcome is printed: numbers, each with a space behind it. A refusal is its number, and anything else is 0 and its values.
 use calendar::date::Date;
 use calendar::time::Time;
+use laying::Ending;
 use layouts::Layout;
 use libc::STDOUT_FILENO;
 use line::Heard;
@@ -17,6 +18,14 @@ use record::TimeLayout;
 pub(crate) fn print(n: u64) {
     io::print_decimal(STDOUT_FILENO, n);
     io::write_all(STDOUT_FILENO, b" ");
+}
+
+// A refusal's number, or 0.
+pub(crate) fn print_ending(ending: Ending) {
+    match ending {
+        Ending::Whole => print(0),
+        Ending::Refused(number) => print(number as u64),
+    }
 }
 
 pub(crate) fn end_line() {

@@ -63,6 +63,7 @@ pub(crate) fn writes_several(bytes: &[u8]) {
     }
     outputs::print(several.count as u64);
     outputs::print(several.used as u64);
-    outputs::print(several.refusal as u64);
+    let ending = several.ending;
+    outputs::print_ending(ending);
     outputs::print_bytes(&out);
 }

@@ -2,19 +2,19 @@
 use native.Mathlib.Omega.{arith}
 use borrow.Author.Needs.{needs}
 use borrow.Author.Tests.{not-true, not-false}
-use mathlib.Core.Path.{_≡_, ap, sym, _∙_}
+use mathlib.Core.Path.{ap, sym, _∙_}
 use mathlib.Core.List.{_++_}
 use Prim.Native.Nat.{_+_, _-_}
 use lib.ListN.{length, drop}
 use Rattle.listing.specs.Answers.{rowAnswer}
-use Rattle.pages.specs.Pages.{pageBy, listedFor}
-use Rattle.pages.proofs.PageLaws.{Holds, none-yet, row-stands, row-stops, page-ends, page-refused, page-good}
+use Rattle.pages.specs.Pages.{rowsIn, listedFor}
+use Rattle.pages.proofs.PageLaws.{Holds, none-listed, row-stands, row-stops, page-ends, page-refused, page-good}
 use Rattle.pages.proofs.list.Statement.{statement}
 use Rattle.pages.proofs.list.Tie as tie
 
 abbrev Inv-loop : tie.InvT-loop
 Inv-loop piece out₀ size next₀ taken₀ used₀ out next taken used =
-    Holds (pageBy (length piece) (length out₀) next₀ piece) piece out₀ out next taken used
+    Holds (rowsIn (length out₀) next₀ piece) piece out₀ out next taken used
 
 abbrev μ-loop : tie.MeasureT-loop
 μ-loop piece out₀ size next₀ taken₀ used₀ out next taken used = length piece - taken
@@ -29,7 +29,7 @@ returns c =
     (ap listedFor (sym refused), ap (λ page. page .bytes ++ drop 0 (a .out .now)) (sym refused))
 
 loop-holds : tie.Need-loop-holds Inv-loop μ-loop
-loop-holds c = none-yet (c .before .before .before .before .args .piece .now) (c .before .before .before .before .args .out .now) (c .before .before .before .before .args .reader)
+loop-holds c = none-listed (c .before .before .before .before .args .piece .now) (c .before .before .before .before .args .out .now) (c .before .before .before .before .args .reader)
 
 sub-feed : tie.Need-sub-feed Inv-loop μ-loop
 sub-feed c = c .before .loop .inv .inside
@@ -44,10 +44,10 @@ feed-requires : tie.Need-feed-requires Inv-loop μ-loop
 feed-requires c κs = search needs
 
 sub-row-for : tie.Need-sub-row-for Inv-loop μ-loop
-sub-row-for c = c .before .before .before .loop .inv .fits
+sub-row-for c = c .before .before .before .loop .inv .laying .fits
 
 part-row-for-start : tie.Need-part-row-for-start Inv-loop μ-loop
-part-row-for-start c = c .before .before .before .loop .inv .fits
+part-row-for-start c = c .before .before .before .loop .inv .laying .fits
 
 part-row-for-end : tie.Need-part-row-for-end Inv-loop μ-loop
 part-row-for-end c = search needs
@@ -63,15 +63,15 @@ add-used c =
     let next =
     let a = c .before .before .before .before .before .before .before .before .before .before .before .before .before .before .before .args in
     let l = c .before .before .before .before .before .before .before .before .before .before .loop in
-    row-stands (pageBy (length (a .piece .now)) (length (a .out .now)) (a .reader) (a .piece .now)) (a .piece .now) (a .out .now) (l .out) (l .next) (l .taken) (l .used) (l .inv) (omega arith) (c .before .before .before .before .before .before .before .feed .result) (c .before .before .before .before .before .before .before .feed .ensures) (rowAnswer (c .before .before .before .before .before .row-for .result)) (c .before .before .before .before .before .row-for .last .1 .0) (c .before .before .before .before .before .row-for .ensures) _ (ap rowAnswer (c .before .n .given .1)) in
-    omega (arith, next .0 .fits, next .0 .size)
+    row-stands (rowsIn (length (a .out .now)) (a .reader) (a .piece .now)) (a .piece .now) (a .out .now) (l .out) (l .next) (l .taken) (l .used) (l .inv) (omega arith) (c .before .before .before .before .before .before .before .feed .result) (c .before .before .before .before .before .before .before .feed .ensures) (rowAnswer (c .before .before .before .before .before .row-for .result)) (c .before .before .before .before .before .row-for .last .1 .0) (c .before .before .before .before .before .row-for .ensures) _ (ap rowAnswer (c .before .n .given .1)) in
+    omega (arith, next .0 .laying .fits, next .0 .laying .size)
 
 add-taken : tie.Need-add-taken Inv-loop μ-loop
 add-taken c =
     let next =
     let a = c .before .before .before .before .before .before .before .before .before .before .before .before .before .before .before .before .before .args in
     let l = c .before .before .before .before .before .before .before .before .before .before .before .before .loop in
-    row-stands (pageBy (length (a .piece .now)) (length (a .out .now)) (a .reader) (a .piece .now)) (a .piece .now) (a .out .now) (l .out) (l .next) (l .taken) (l .used) (l .inv) (omega arith) (c .before .before .before .before .before .before .before .before .before .feed .result) (c .before .before .before .before .before .before .before .before .before .feed .ensures) (rowAnswer (c .before .before .before .before .before .before .before .row-for .result)) (c .before .before .before .before .before .before .before .row-for .last .1 .0) (c .before .before .before .before .before .before .before .row-for .ensures) _ (ap rowAnswer (c .before .before .before .n .given .1)) in
+    row-stands (rowsIn (length (a .out .now)) (a .reader) (a .piece .now)) (a .piece .now) (a .out .now) (l .out) (l .next) (l .taken) (l .used) (l .inv) (omega arith) (c .before .before .before .before .before .before .before .before .before .feed .result) (c .before .before .before .before .before .before .before .before .before .feed .ensures) (rowAnswer (c .before .before .before .before .before .before .before .row-for .result)) (c .before .before .before .before .before .before .before .row-for .last .1 .0) (c .before .before .before .before .before .before .before .row-for .ensures) _ (ap rowAnswer (c .before .before .before .n .given .1)) in
     omega (arith, next .0 .inside)
 
 loop-less : tie.Need-loop-less Inv-loop μ-loop
@@ -79,14 +79,14 @@ loop-less c =
     let next =
     let a = c .before .before .before .before .before .before .before .before .before .before .before .before .before .before .before .before .before .args in
     let l = c .before .before .before .before .before .before .before .before .before .before .before .before .loop in
-    row-stands (pageBy (length (a .piece .now)) (length (a .out .now)) (a .reader) (a .piece .now)) (a .piece .now) (a .out .now) (l .out) (l .next) (l .taken) (l .used) (l .inv) (omega arith) (c .before .before .before .before .before .before .before .before .before .feed .result) (c .before .before .before .before .before .before .before .before .before .feed .ensures) (rowAnswer (c .before .before .before .before .before .before .before .row-for .result)) (c .before .before .before .before .before .before .before .row-for .last .1 .0) (c .before .before .before .before .before .before .before .row-for .ensures) _ (ap rowAnswer (c .before .before .before .n .given .1)) in
+    row-stands (rowsIn (length (a .out .now)) (a .reader) (a .piece .now)) (a .piece .now) (a .out .now) (l .out) (l .next) (l .taken) (l .used) (l .inv) (omega arith) (c .before .before .before .before .before .before .before .before .before .feed .result) (c .before .before .before .before .before .before .before .before .before .feed .ensures) (rowAnswer (c .before .before .before .before .before .before .before .row-for .result)) (c .before .before .before .before .before .before .before .row-for .last .1 .0) (c .before .before .before .before .before .before .before .row-for .ensures) _ (ap rowAnswer (c .before .before .before .n .given .1)) in
     omega (arith, next .0 .inside, next .1)
 
 loop-again : tie.Need-loop-again Inv-loop μ-loop
 loop-again c =
     let a = c .before .before .before .before .before .before .before .before .before .before .before .before .before .before .before .before .before .args in
     let l = c .before .before .before .before .before .before .before .before .before .before .before .before .loop in
-    row-stands (pageBy (length (a .piece .now)) (length (a .out .now)) (a .reader) (a .piece .now)) (a .piece .now) (a .out .now) (l .out) (l .next) (l .taken) (l .used) (l .inv) (omega arith) (c .before .before .before .before .before .before .before .before .before .feed .result) (c .before .before .before .before .before .before .before .before .before .feed .ensures) (rowAnswer (c .before .before .before .before .before .before .before .row-for .result)) (c .before .before .before .before .before .before .before .row-for .last .1 .0) (c .before .before .before .before .before .before .before .row-for .ensures) _ (ap rowAnswer (c .before .before .before .n .given .1)) .0
+    row-stands (rowsIn (length (a .out .now)) (a .reader) (a .piece .now)) (a .piece .now) (a .out .now) (l .out) (l .next) (l .taken) (l .used) (l .inv) (omega arith) (c .before .before .before .before .before .before .before .before .before .feed .result) (c .before .before .before .before .before .before .before .before .before .feed .ensures) (rowAnswer (c .before .before .before .before .before .before .before .row-for .result)) (c .before .before .before .before .before .before .before .row-for .last .1 .0) (c .before .before .before .before .before .before .before .row-for .ensures) _ (ap rowAnswer (c .before .before .before .n .given .1)) .0
 
 enum-known-number : tie.Need-enum-known-number Inv-loop μ-loop
 enum-known-number c = c .match .keys2
@@ -99,7 +99,7 @@ returns-2 c =
     let stops =
     let a = c .before .before .before .before .before .before .before .before .before .before .before .before .before .before .before .args in
     let l = c .before .before .before .before .before .before .before .before .before .before .loop in
-    row-stops (pageBy (length (a .piece .now)) (length (a .out .now)) (a .reader) (a .piece .now)) (a .piece .now) (a .out .now) (l .out) (l .next) (l .taken) (l .used) (l .inv) (omega arith) (c .before .before .before .before .before .before .before .feed .result) (c .before .before .before .before .before .before .before .feed .ensures) (rowAnswer (c .before .before .before .before .before .row-for .result)) (c .before .before .before .before .before .row-for .last .1 .0) (c .before .before .before .before .before .row-for .ensures) _ (ap rowAnswer (c .before .number .given .1)) in
+    row-stops (rowsIn (length (a .out .now)) (a .reader) (a .piece .now)) (a .piece .now) (a .out .now) (l .out) (l .next) (l .taken) (l .used) (l .inv) (omega arith) (c .before .before .before .before .before .before .before .feed .result) (c .before .before .before .before .before .before .before .feed .ensures) (rowAnswer (c .before .before .before .before .before .row-for .result)) (c .before .before .before .before .before .row-for .last .1 .0) (c .before .before .before .before .before .row-for .ensures) _ (ap rowAnswer (c .before .number .given .1)) in
     rw (page-good (length (c .before .before .before .before .before .before .before .before .before .before .before .before .before .before .before .args .out .now)) (c .before .before .before .before .before .before .before .before .before .before .before .before .before .before .before .args .reader) (c .before .before .before .before .before .before .before .before .before .before .before .before .before .before .before .args .piece .now) (sym (c .before .before .before .before .before .before .before .before .before .before .before .before .is-well-formed .ensures) ∙ not-false _ (c .before .before .before .before .before .before .before .before .before .before .before .if1 .left))) stops
 
 same-length-2 : tie.Need-same-length-2 Inv-loop μ-loop
@@ -110,7 +110,7 @@ returns-3 c =
     let a = c .before .before .before .before .before .before .args in
     let l = c .before .loop in
     rw (page-good (length (a .out .now)) (a .reader) (a .piece .now) (sym (c .before .before .before .is-well-formed .ensures) ∙ not-false _ (c .before .before .if1 .left)))
-    (page-ends (pageBy (length (a .piece .now)) (length (a .out .now)) (a .reader) (a .piece .now)) (a .piece .now) (a .out .now) (l .out) (l .next) (l .taken) (l .used) (omega arith) (l .inv))
+    (page-ends (rowsIn (length (a .out .now)) (a .reader) (a .piece .now)) (a .piece .now) (a .out .now) (l .out) (l .next) (l .taken) (l .used) (omega arith) (l .inv))
 
 pub list-spec : {M : Type 1} → statement M
 list-spec =

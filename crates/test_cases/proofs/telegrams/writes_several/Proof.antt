@@ -58,11 +58,8 @@ print-requires c κs = search needs
 print-requires-2 : tie.Need-print-requires-2 Inv-loop μ-loop
 print-requires-2 c κs = search needs
 
-cast-print : tie.Need-cast-print Inv-loop μ-loop
-cast-print c = omega arith
-
-print-requires-3 : tie.Need-print-requires-3 Inv-loop μ-loop
-print-requires-3 c κs = search needs
+print-ending-requires : tie.Need-print-ending-requires Inv-loop μ-loop
+print-ending-requires c κs = search needs
 
 slice-aggregate-print-bytes : tie.Need-slice-aggregate-print-bytes Inv-loop μ-loop
 slice-aggregate-print-bytes c = omega arith
@@ -94,8 +91,7 @@ writes-several-spec =
     loop-again
     print-requires
     print-requires-2
-    cast-print
-    print-requires-3
+    print-ending-requires
     slice-aggregate-print-bytes
     print-bytes-requires
     returns)

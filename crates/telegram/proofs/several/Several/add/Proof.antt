@@ -11,8 +11,14 @@ use borrow.Author.Needs.{needs}
 use Rattle.telegram.proofs.several.Several.add.Statement.{statement}
 use Rattle.telegram.proofs.several.Several.add.Tie as tie
 
+enum-told : tie.Need-enum-told
+enum-told c = search needs
+
 returns : tie.Need-returns
-returns c = ended-before _ (c .before .before .before .args .self) _ _ (c .if1 .taken)
+returns c = ended-before _ (c .before .before .before .args .self) _ _ _ (c .enum-told .given .1)
+
+enum-told-2 : tie.Need-enum-told-2
+enum-told-2 c = search needs
 
 smaller-requires : tie.Need-smaller-requires
 smaller-requires c κs = search needs
@@ -51,7 +57,7 @@ same-length c = search needs
 
 returns-2 : tie.Need-returns-2
 returns-2 c =
-    one-stands (c .before .before .before .before .before .before .before .before .before .before .before .before .args .choice) (c .before .before .before .before .before .before .before .before .before .before .before .before .args .self) (c .before .before .before .before .before .before .before .before .before .before .before .before .args .rec) (c .before .before .before .before .before .before .before .before .before .before .before .before .args .out .now) (c .before .before .before .before .before .before .before .before .before .if1 .left) _ _ _
+    one-stands (c .before .before .before .before .before .before .before .before .before .before .before .before .args .choice) (c .before .before .before .before .before .before .before .before .before .before .before .before .args .self) (c .before .before .before .before .before .before .before .before .before .before .before .before .args .out .now) (c .before .before .before .before .before .before .before .before .before .enum-told2 .given .1) (c .before .before .before .before .before .before .before .before .before .before .before .before .args .rec) _ _ _
     (c .before .before .before .before .before .before .before .before .smaller .ensures) (c .before .before .before .before .before .before .write .ensures) _ _ (c .wrapping-add-usize .ensures) (ap writeAnswer (c .before .before .n .given .1))
 
 same-length-2 : tie.Need-same-length-2
@@ -59,14 +65,16 @@ same-length-2 c = search needs
 
 returns-3 : tie.Need-returns-3
 returns-3 c =
-    one-stops (c .before .before .before .before .before .before .before .before .before .before .before .args .choice) (c .before .before .before .before .before .before .before .before .before .before .before .args .self) (c .before .before .before .before .before .before .before .before .before .before .before .args .rec) (c .before .before .before .before .before .before .before .before .before .before .before .args .out .now) (c .before .before .before .before .before .before .before .before .if1 .left) _ _ _
-    (c .before .before .before .before .before .before .before .smaller .ensures) (c .before .before .before .before .before .write .ensures) _ (ap writeAnswer (c .before .number .given .1))
+    one-stops (c .before .before .before .before .before .before .before .before .before .before .before .args .choice) (c .before .before .before .before .before .before .before .before .before .before .before .args .self) (c .before .before .before .before .before .before .before .before .before .before .before .args .out .now) (c .before .before .before .before .before .before .before .before .enum-told2 .given .1) (c .before .before .before .before .before .before .before .before .before .before .before .args .rec) _ _ _
+    (c .before .before .before .before .before .before .before .smaller .ensures) (c .before .before .before .before .before .write .ensures) _ (omega arith) (ap writeAnswer (c .before .number .given .1))
 
 pub add-spec : {M : Type 1} → statement M
 add-spec =
     tie.close
     (tie.spec
+    enum-told
     returns
+    enum-told-2
     smaller-requires
     sub-write
     part-write-start
