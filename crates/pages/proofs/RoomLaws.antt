@@ -17,6 +17,7 @@ use Rattle.line.specs.Line.{Line, Told, nothing, event, Feeding, stopOr, feedOf
 use Rattle.line.specs.Cuts.{eventsOf}
 use Rattle.line.proofs.StaysGood.{Good, good-feed, feed-good, reader-of-good}
 use Rattle.line.proofs.CutLaws.{feed-parts, some-by, shorter, good-fresh}
+use Rattle.listing.specs.Listing.{longestRow}
 use Rattle.listing.proofs.RowLaws.{dated-short, time-short, refused-short}
 use Rattle.pages.specs.Pages.{rowFor, Underway, behindCall, nextRow, rowsIn, pageFor, pageOf}
 use Rattle.pages.specs.Whole.{rowOfEvent, rowsOf, turnsWith, lentWith, AllListed, EveryCutCanBeListed}
@@ -61,14 +62,14 @@ at-fits line [] = omega arith
 at-fits line (byte ∷ piece) =
     at-by (toldBy (line .held) byte) (startOf line) (step line byte) (feedOf (step line byte) piece) (mod-lt _ (omega arith)) (at-fits (step line byte) piece)
 
-row-short : (told : Told) (at : ℕ) → at < 2 ^ 32 → Sound told → length (rowOfEvent (heardFor told at)) ≤ 69
+row-short : (told : Told) (at : ℕ) → at < 2 ^ 32 → Sound told → length (rowOfEvent (heardFor told at)) ≤ longestRow
 row-short nothing at fits sound = omega arith
 row-short (event (done (Dated layout status weekday date time)) size) at fits sound = dated-short at fits layout status weekday date time
 row-short (event (done (TimeOnly layout time)) size) at fits sound = time-short at fits layout time
 row-short (event (refused n) size) at fits sound = refused-short at fits n sound
 
 -- so a call takes a byte at least
-takes-some : (room : ℕ) → 69 ≤ room → (line : Line) → Good line → (byte : ℕ) (piece : List ℕ)
+takes-some : (room : ℕ) → longestRow ≤ room → (line : Line) → Good line → (byte : ℕ) (piece : List ℕ)
     → 0 < pageFor (byte ∷ piece) (rowsIn room (readerOf line) (byte ∷ piece)) .taken
 takes-some room enough line good byte piece =
     let whole = byte ∷ piece in
@@ -83,12 +84,12 @@ takes-some room enough line good byte piece =
     let tail = left-tail (length piece) (room - length row) rest in
     omega (arith, ap (λ s. length (s .left .rest)) stands, ap length (tail .is), length-drop (tail .taken) (rest .rest), length-drop (feeding .taken) whole, some-by (toldBy (line .held) byte) (startOf line) (step line byte) (feedOf (step line byte) piece))
 
-pub call-takes-some : (room : ℕ) → 69 ≤ room → (line : Line) → Good line → (byte : ℕ) (piece : List ℕ) → 0 < pageOf room (readerOf line) (byte ∷ piece) .taken
+pub call-takes-some : (room : ℕ) → longestRow ≤ room → (line : Line) → Good line → (byte : ℕ) (piece : List ℕ) → 0 < pageOf room (readerOf line) (byte ∷ piece) .taken
 call-takes-some room enough line good byte piece =
     subst⁻¹ (λ page. 0 < page .taken) (page-good room (readerOf line) (byte ∷ piece) (reader-of-good line good)) (takes-some room enough line good byte piece)
 
 -- and as many turns as a piece has bytes use it up
-less-left : (room : ℕ) → 69 ≤ room → (line : Line) → Good line → (piece : List ℕ) (n : ℕ) → length piece ≤ suc n
+less-left : (room : ℕ) → longestRow ≤ room → (line : Line) → Good line → (piece : List ℕ) (n : ℕ) → length piece ≤ suc n
     → length (drop (pageOf room (readerOf line) piece .taken) piece) ≤ n
 less-left room enough line good [] n h =
     let none : List ℕ = [] in
@@ -96,7 +97,7 @@ less-left room enough line good [] n h =
 less-left room enough line good (byte ∷ piece) n h =
     omega (arith, length-drop (pageOf room (readerOf line) (byte ∷ piece) .taken) (byte ∷ piece), call-takes-some room enough line good byte piece)
 
-pub enough-turns : (room : ℕ) → 69 ≤ room → (n : ℕ) (line : Line) → Good line → (piece : List ℕ) → length piece ≤ n
+pub enough-turns : (room : ℕ) → longestRow ≤ room → (n : ℕ) (line : Line) → Good line → (piece : List ℕ) → length piece ≤ n
     → turnsWith (replicate n room) (readerOf line) piece .rest ≡ []
 enough-turns room enough zero line good [] h = refl
 enough-turns room enough zero line good (byte ∷ piece) h = absurd (omega arith)
@@ -107,7 +108,7 @@ enough-turns room enough (suc n) line good piece h =
     ap (λ reader. turnsWith (replicate n room) reader rest .rest) (here .is)
     ∙ enough-turns room enough n (here .next) (here .good) rest (less-left room enough line good piece n h)
 
-all-listed : (room : ℕ) → 69 ≤ room → (pieces : List (List ℕ)) (line : Line) (reader : Reader) → Good line → reader ≡ readerOf line → AllListed reader (map (lentWith room) pieces)
+all-listed : (room : ℕ) → longestRow ≤ room → (pieces : List (List ℕ)) (line : Line) (reader : Reader) → Good line → reader ≡ readerOf line → AllListed reader (map (lentWith room) pieces)
 all-listed room enough [] line reader good is = tt
 all-listed room enough (piece ∷ pieces) line reader good is =
     let rooms = replicate (length piece) room in

@@ -11,7 +11,7 @@ use Rattle.line.specs.declared.Heard.{Heard}
 use Rattle.line.specs.declared.Heard.the-variants.{Nothing, Event, Refused}
 use Rattle.line.specs.Line.{Line, freshLine, freshReader, toldByEnd, startOf, heardFor, endReader}
 use Rattle.line.specs.Cuts.{eventsOf, lineAfter}
-use Rattle.listing.specs.Listing.{headerRow, recordRow, refusedRow, strayRow}
+use Rattle.listing.specs.Listing.{longestRow, headerRow, recordRow, refusedRow, strayRow}
 use Rattle.pages.specs.Pages.{pageOf}
 
 -- a row for each event: the record that was read, or the number that it was refused with
@@ -91,4 +91,4 @@ abbrev pub lentWith : ℕ → List ℕ → Lent
 lentWith room piece = record { piece = piece; rooms = replicate (length piece) room }
 
 abbrev pub EveryCutCanBeListed : Type 0
-EveryCutCanBeListed = (room : ℕ) → 69 ≤ room → (pieces : List (List ℕ)) → AllListed freshReader (map (lentWith room) pieces)
+EveryCutCanBeListed = (room : ℕ) → longestRow ≤ room → (pieces : List (List ℕ)) → AllListed freshReader (map (lentWith room) pieces)
