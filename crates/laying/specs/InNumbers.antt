@@ -20,17 +20,17 @@ BytesAreLaidSo =
 abbrev pub Parts : Type 0
 Parts = List (Outcome (List ℕ))
 
-abbrev pub firstOf : Parts → Next Parts
-firstOf [] = nothing
-firstOf (outcome ∷ others) = part outcome others
+abbrev pub nextPart : Parts → Next Parts
+nextPart [] = nothing
+nextPart (outcome ∷ others) = part outcome others
 
 -- "the first refusal ends it, the earlier ones stay": two parts where both have room, and where the second has none; a part behind a
 -- refused one, which is left with it; and where no more than one is asked for
 abbrev pub PartsStandSo : Type 0
 PartsStandSo =
-    (oneBehindAnother firstOf 2 3 (done (7 ∷ 8 ∷ []) ∷ done (9 ∷ []) ∷ []) ≡ record { parts = (7 ∷ 8 ∷ []) ∷ (9 ∷ []) ∷ []; left = []; ending = Whole })
-    × (oneBehindAnother firstOf 2 2 (done (7 ∷ 8 ∷ []) ∷ done (9 ∷ []) ∷ [])
+    (oneBehindAnother nextPart 2 3 (done (7 ∷ 8 ∷ []) ∷ done (9 ∷ []) ∷ []) ≡ record { parts = (7 ∷ 8 ∷ []) ∷ (9 ∷ []) ∷ []; left = []; ending = Whole })
+    × (oneBehindAnother nextPart 2 2 (done (7 ∷ 8 ∷ []) ∷ done (9 ∷ []) ∷ [])
     ≡ record { parts = (7 ∷ 8 ∷ []) ∷ []; left = done (9 ∷ []) ∷ []; ending = Refused 13 })
-    × (oneBehindAnother firstOf 3 9 (done (7 ∷ []) ∷ refused 8 ∷ done (9 ∷ []) ∷ [])
+    × (oneBehindAnother nextPart 3 9 (done (7 ∷ []) ∷ refused 8 ∷ done (9 ∷ []) ∷ [])
     ≡ record { parts = (7 ∷ []) ∷ []; left = refused 8 ∷ done (9 ∷ []) ∷ []; ending = Refused 8 })
-    × (oneBehindAnother firstOf 1 9 (done (7 ∷ []) ∷ done (8 ∷ []) ∷ []) ≡ record { parts = (7 ∷ []) ∷ []; left = done (8 ∷ []) ∷ []; ending = Whole })
+    × (oneBehindAnother nextPart 1 9 (done (7 ∷ []) ∷ done (8 ∷ []) ∷ []) ≡ record { parts = (7 ∷ []) ∷ []; left = done (8 ∷ []) ∷ []; ending = Whole })
