@@ -158,7 +158,7 @@ module _ {S : Type 0} (next : S → Next S) where
         ended whole (suc n) parts first out now used (Refused number) laying last (s .1)
         (comes-first ∙ ap (λ o. partThen o now (λ bytes. oneBehindAnother next n (length first - used - length bytes) rest)) (in-room ∙ s .0))
 
-    pub part-fits : (k : ℕ) → answer ≡ done k → used + k ≤ length out
+    part-fits : (k : ℕ) → answer ≡ done k → used + k ≤ length out
     part-fits k is =
         let s = stands outcome (drop used out) k last (told ∙ ap (λ a. (a, last)) is) in
         omega (arith, within-done _ outcome (s .bytes) (s .is-laid) .1, s .size, length-drop used out, laying .fits)

@@ -2,7 +2,7 @@
 use mathlib.Core.Path.{_≡_, refl, ap, ap₂, sym, _∙_}
 use mathlib.Core.Bool.{Bool, true, false}
 use mathlib.Core.List.{List, [], _++_, append-nil}
-use Prim.Native.Nat.{ℕ, _-_, min}
+use Prim.Native.Nat.{ℕ, _-_, _≤_, min}
 use native.Mathlib.Omega.{arith}
 use lib.Dec.{leb}
 use lib.ListN.{length, take, drop, length-drop, drop-of-length-le}
@@ -11,27 +11,19 @@ use borrow.Author.Tests.{leb-true, leb-false}
 use borrow.Rule.Slice.PartMut.{putMid}
 
 module _ (used : ℕ) (out : List ℕ) where
-  start-drop : drop (min used (length out)) out ≡ drop used out
-  start-drop = go (leb used (length out)) refl
+  -- what does not change past the buffer's end is the same where the room begins
+  at-start : (f : ℕ → List ℕ) (end : List ℕ) → ((k : ℕ) → length out ≤ k → f k ≡ end) → f (min used (length out)) ≡ f used
+  at-start f end past = go (leb used (length out)) refl
     where
-      go : (t : Bool) → leb used (length out) ≡ t → drop (min used (length out)) out ≡ drop used out
-      go true e =
-          let within = leb-true used (length out) e in
-          let same : min used (length out) ≡ used = omega arith in ap (λ k. drop k out) same
-      go false e =
-          let past = leb-false used (length out) e in
-          drop-of-length-le out {i = min used (length out)} (omega arith) ∙ sym (drop-of-length-le out {i = used} (omega arith))
+      go : (t : Bool) → leb used (length out) ≡ t → f (min used (length out)) ≡ f used
+      go true e = let fits = leb-true used (length out) e in let same : min used (length out) ≡ used = omega arith in ap f same
+      go false e = let over = leb-false used (length out) e in past (min used (length out)) (omega arith) ∙ sym (past used (omega arith))
+
+  start-drop : drop (min used (length out)) out ≡ drop used out
+  start-drop = at-start (λ k. drop k out) [] (λ k h. drop-of-length-le out {i = k} h)
 
   start-take : take (min used (length out)) out ≡ take used out
-  start-take = go (leb used (length out)) refl
-    where
-      go : (t : Bool) → leb used (length out) ≡ t → take (min used (length out)) out ≡ take used out
-      go true e =
-          let within = leb-true used (length out) e in
-          let same : min used (length out) ≡ used = omega arith in ap (λ k. take k out) same
-      go false e =
-          let past = leb-false used (length out) e in
-          take-all (min used (length out)) out (omega arith) ∙ sym (take-all used out (omega arith))
+  start-take = at-start (λ k. take k out) out (λ k h. take-all k out h)
 
   pub tail-lent : (start : ℕ) → start ≡ min used (length out) → take (length out - start) (drop start out) ≡ drop used out
   tail-lent start e =

@@ -5,7 +5,7 @@ use mathlib.Core.List.{List, [], _∷_, _++_}
 use Prim.Native.Nat.{ℕ, zero, suc, _+_, _-_, _≤_, _<_}
 use native.Mathlib.Omega.{arith}
 use lib.ListN.{length, take, drop, length-drop, drop-of-length-le}
-use lib.Seq.{take-all, drop-drop}
+use lib.Seq.{drop-drop}
 use borrow.Rule.Slice.PartMut.{putMid}
 use Rattle.refusals.specs.Refusals.{Outcome, done, refused}
 use Rattle.laying.specs.declared.Ending.{Ending}
@@ -13,7 +13,7 @@ use Rattle.laying.specs.declared.Ending.the-variants as ending
 use Rattle.laying.specs.Laying.{laid}
 use Rattle.laying.specs.OneBehindAnother.{nothing, part, Standing, joined, oneBehindAnother}
 use Rattle.laying.proofs.LayingLaws.{within-done, laid-fits, laid-refused, stands}
-use Rattle.laying.proofs.TailLaws.{tail-back}
+use Rattle.laying.proofs.TailLaws.{tail-lent, tail-back}
 use Rattle.laying.proofs.OneBehindAnotherLaws.{stands-by, Laying, Ended, none-yet, no-more, part-stops, part-stands}
 use Rattle.line.specs.declared.Reader.{Reader}
 use Rattle.line.specs.declared.Fed.{Fed}
@@ -110,10 +110,10 @@ module _ (whole : Standing Underway) (piece first out : List ℕ) (reader : Read
   behind = record { reader = fed .reader; rest = drop (taken + fed .taken) piece }
 
   fed-is : fed ≡ feedReader reader (drop taken piece)
-  fed-is = call ∙ ap (feedReader reader) (take-all (length piece - taken) (drop taken piece) (omega (arith, length-drop taken piece)))
+  fed-is = call ∙ ap (feedReader reader) (tail-lent taken piece taken (omega arith))
 
   answered : laid (rowFor (fed .heard)) (drop used out) ≡ (answer, last)
-  answered = ap (laid (rowFor (fed .heard))) (sym (take-all (length out - used) (drop used out) (omega (arith, length-drop used out)))) ∙ told
+  answered = ap (laid (rowFor (fed .heard))) (sym (tail-lent used out used (omega (arith, holds .laying .fits)))) ∙ told
 
   back : putMid used (length out - used) out last ≡ take used out ++ last
   back = tail-back used out used last (omega (arith, holds .laying .fits))

@@ -114,7 +114,7 @@ row-continues here rest left bytes parts comes later line good is =
       ends = splits .1 ∙ ap (lineAfter (feeding .line)) (sym left-is) ∙ on .ends;
     }
 
-pub rows-continue : (n room : ℕ) (here : Underway) (line : Line) → Good line → here .reader ≡ readerOf line
+rows-continue : (n room : ℕ) (here : Underway) (line : Line) → Good line → here .reader ≡ readerOf line
     → GoesOn line (here .rest) (joined (oneBehindAnother nextRow n room here .parts)) (oneBehindAnother nextRow n room here .left .reader) (oneBehindAnother nextRow n room here .left .rest)
 rows-continue =
     stands-by nextRow (λ here parts left. (line : Line) → Good line → here .reader ≡ readerOf line → GoesOn line (here .rest) (joined parts) (left .reader) (left .rest))

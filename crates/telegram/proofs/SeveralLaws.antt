@@ -31,7 +31,7 @@ module _ (choice : Choice) (several : Several) (out : List ℕ) where
   ended-before recs number is =
       ap (λ end. unlessEnded end (withMore several out (telegramsIn choice (length out - several .used) recs)) (several, out)) is
 
-  pub goes-on : (recs : List Record) → several .ending ≡ Whole
+  goes-on : (recs : List Record) → several .ending ≡ Whole
       → severalAfter choice several recs out ≡ withMore several out (telegramsIn choice (length out - several .used) recs)
   unfolding severalAfter
   goes-on recs is =
