@@ -174,7 +174,9 @@ pub(crate) fn wide(n: u8) -> usize {
     n as usize
 }
 
-// The places, how many are held, fed, stray, start.
+// A reader is handed in as its places, how many are held, fed, stray and start.
+pub(crate) const STATE_BYTES: usize = PLACES + 13;
+
 pub(crate) fn reader(bytes: &[u8]) -> Reader {
     Reader {
         held: held(bytes),

@@ -13,7 +13,7 @@ pub(crate) fn is_well_formed(bytes: &[u8]) {
 
 pub(crate) fn feeds(bytes: &[u8]) {
     let reader = inputs::reader(bytes);
-    let fed = reader.feed(inputs::behind(bytes, 37));
+    let fed = reader.feed(inputs::behind(bytes, inputs::STATE_BYTES));
     let heard = fed.heard;
     outputs::print(fed.taken as u64);
     outputs::print_heard(heard);
@@ -22,7 +22,7 @@ pub(crate) fn feeds(bytes: &[u8]) {
 
 // The refusal of the state, the bytes taken, how many events, and each.
 pub(crate) fn uses_up(bytes: &[u8]) {
-    let passed = line::pieces::use_up(inputs::reader(bytes), inputs::behind(bytes, 37));
+    let passed = line::pieces::use_up(inputs::reader(bytes), inputs::behind(bytes, inputs::STATE_BYTES));
     let slots = passed.slots;
     outputs::print(passed.refusal as u64);
     outputs::print(passed.taken as u64);
