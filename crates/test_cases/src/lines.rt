@@ -22,7 +22,10 @@ pub(crate) fn feeds(bytes: &[u8]) {
 
 // The refusal of the state, the bytes taken, how many events, and each.
 pub(crate) fn uses_up(bytes: &[u8]) {
-    let passed = line::pieces::use_up(inputs::reader(bytes), inputs::behind(bytes, inputs::STATE_BYTES));
+    let passed = line::pieces::use_up(
+        inputs::reader(bytes),
+        inputs::behind(bytes, inputs::STATE_BYTES),
+    );
     let slots = passed.slots;
     outputs::print(passed.refusal as u64);
     outputs::print(passed.taken as u64);
