@@ -1,4 +1,4 @@
-// The refusal numbers of document 01. Every crate hands out these numbers and no others.
+// The refusal numbers of documents 01 and 02. Every crate hands out these numbers and no others.
 ghost use mathlib.Core.Path.{_≡_};
 ghost use Rattle.refusals.specs.Refusals.{lower};
 
@@ -35,6 +35,10 @@ pub const NO_DATE: u8 = 14;
 pub const STATE_ILL_FORMED: u8 = 15;
 
 pub const NOT_OFFERED: u8 = 16;
+
+pub const DAY_OF_YEAR_DISAGREES: u8 = 17;
+
+pub const NO_REQUEST: u8 = 18;
 
 // The lower of two refusals, where 0 is none.
 pub fn lower(here: u8, before: u8) -> u8
