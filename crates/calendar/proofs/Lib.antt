@@ -1,6 +1,7 @@
 pub mod Months
 pub mod Dates
 pub mod Times
+pub mod Years
 pub mod Laws
 pub mod Whole
 pub mod AsPrintedHolds

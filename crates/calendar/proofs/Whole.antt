@@ -2,7 +2,7 @@
 use mathlib.Core.Path.{_≡_, refl}
 use mathlib.Core.Bool.{cond}
 use Rattle.refusals.proofs.Laws.{back, told-apart}
-use Rattle.calendar.specs.Answers.{daysAnswer, dayAnswer, dateAnswer, secondAnswer, nextSecondAnswer}
+use Rattle.calendar.specs.Answers.{daysAnswer, dayAnswer, dateAnswer, secondAnswer, nextSecondAnswer, yearDayAnswer}
 use Rattle.calendar.specs.declared.date.DaysAnswer.{DaysAnswer}
 use Rattle.calendar.specs.declared.date.DaysAnswer.the-variants as days
 use Rattle.calendar.specs.declared.date.DayAnswer.{DayAnswer}
@@ -13,6 +13,8 @@ use Rattle.calendar.specs.declared.time.SecondAnswer.{SecondAnswer}
 use Rattle.calendar.specs.declared.time.SecondAnswer.the-variants as second
 use Rattle.calendar.specs.declared.time.NextSecondAnswer.{NextSecondAnswer}
 use Rattle.calendar.specs.declared.time.NextSecondAnswer.the-variants as next
+use Rattle.calendar.specs.declared.year.YearDayAnswer.{YearDayAnswer}
+use Rattle.calendar.specs.declared.year.YearDayAnswer.the-variants as yearDay
 
 pub days-told-apart : (a b : DaysAnswer) → daysAnswer a ≡ daysAnswer b → a ≡ b
 days-told-apart = told-apart daysAnswer (back days.Days days.Refused) elim [ days.Days n ↦ refl | days.Refused n ↦ refl ]
@@ -31,3 +33,7 @@ pub next-told-apart : (a b : NextSecondAnswer) → nextSecondAnswer a ≡ nextSe
 next-told-apart =
     told-apart nextSecondAnswer (back (λ p. cond (p .1) (next.NextDay (p .0)) (next.SameDay (p .0))) next.Refused)
     elim [ next.SameDay t ↦ refl | next.NextDay t ↦ refl | next.Refused n ↦ refl ]
+
+pub year-day-told-apart : (a b : YearDayAnswer) → yearDayAnswer a ≡ yearDayAnswer b → a ≡ b
+year-day-told-apart =
+    told-apart yearDayAnswer (back yearDay.Day yearDay.Refused) elim [ yearDay.Day n ↦ refl | yearDay.Refused n ↦ refl ]

@@ -9,11 +9,13 @@ use Rattle.calendar.specs.declared.date.DateAnswer.{DateAnswer}
 use Rattle.calendar.specs.declared.time.Time.{Time}
 use Rattle.calendar.specs.declared.time.SecondAnswer.{SecondAnswer}
 use Rattle.calendar.specs.declared.time.NextSecondAnswer.{NextSecondAnswer}
+use Rattle.calendar.specs.declared.year.YearDayAnswer.{YearDayAnswer}
 use Rattle.calendar.specs.declared.date.DaysAnswer.the-variants as days
 use Rattle.calendar.specs.declared.date.DayAnswer.the-variants as day
 use Rattle.calendar.specs.declared.date.DateAnswer.the-variants as date
 use Rattle.calendar.specs.declared.time.SecondAnswer.the-variants as second
 use Rattle.calendar.specs.declared.time.NextSecondAnswer.the-variants as next
+use Rattle.calendar.specs.declared.year.YearDayAnswer.the-variants as yearDay
 
 -- the length of a month
 abbrev pub daysAnswer : DaysAnswer → Outcome ℕ
@@ -40,3 +42,8 @@ abbrev pub nextSecondAnswer : NextSecondAnswer → Outcome (Time × Bool)
 nextSecondAnswer (next.SameDay t) = done (t, false)
 nextSecondAnswer (next.NextDay t) = done (t, true)
 nextSecondAnswer (next.Refused number) = refused number
+
+-- the day of the year
+abbrev pub yearDayAnswer : YearDayAnswer → Outcome ℕ
+yearDayAnswer (yearDay.Day n) = done n
+yearDayAnswer (yearDay.Refused number) = refused number

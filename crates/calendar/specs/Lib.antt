@@ -5,4 +5,5 @@ pub mod DayOfYear
 pub mod Answers
 pub mod RoundTrip
 pub mod Literals
+pub mod YearDays
 pub mod AsPrinted

@@ -1,0 +1,28 @@
+// The day of the year, 1 to 366.
+use super::date::Date;
+use super::date::DayAnswer;
+use super::date::day_number;
+use super::month_starts::month_starts;
+ghost use mathlib.Core.Path.{_≡_};
+ghost use Rattle.calendar.specs.DayOfYear.{dayOfYear};
+ghost use Rattle.calendar.specs.Answers.{yearDayAnswer};
+
+// A day of the year, or the number that refuses the date.
+pub enum YearDayAnswer {
+    Day(u16),
+    Refused(u8),
+}
+
+// The day of the year of a date: 1 January is 1; 6 or 7 for a date that the calendar does not have.
+pub fn day_of_year(date: Date) -> YearDayAnswer
+    ensures { λ r. ⌜ yearDayAnswer r ≡ dayOfYear date ⌝ }
+{
+    match day_number(date) {
+        DayAnswer::Day(day) => {
+            let january = 12 * (date.year as usize - 1980);
+            let starts = month_starts();
+            YearDayAnswer::Day((day - starts[january] as u32 + 1) as u16)
+        }
+        DayAnswer::Refused(number) => YearDayAnswer::Refused(number),
+    }
+}
