@@ -3,7 +3,8 @@ use mathlib.Core.Path.{refl}
 use Rattle.refusals.specs.Refusals.{unless}
 use Rattle.calendar.specs.Calendar.{isLeap, monthLength, monthInRange, dateInRange, dayExists, dateRefusal, monthStart, startsFrom, monthStarts, dayOf, dayNumber, seek, monthHolding, dateAt, dateOf, dayAfter, isLastDay, nextDay}
 use Rattle.calendar.specs.TimeOfDay.{timeInRange, timeRefusal, secondsOf, secondOfDay, timeAfter, isLastSecond, nextSecond}
-use Rattle.calendar.specs.AsPrinted.{TheMonthStartsAreAsPrinted, TheCalendarIsAsPrinted}
+use Rattle.calendar.specs.DayOfYear.{daysOfMonths, yearDay, dayOfYear}
+use Rattle.calendar.specs.AsPrinted.{TheMonthStartsAreAsPrinted, TheCalendarIsAsPrinted, TheDaysOfTheYearAreAsPrinted}
 
 pub month-starts-as-printed : TheMonthStartsAreAsPrinted
 unfolding isLeap monthLength startsFrom monthStarts
@@ -12,3 +13,7 @@ month-starts-as-printed = (refl, refl, refl)
 pub calendar-as-printed : TheCalendarIsAsPrinted
 unfolding unless isLeap monthLength monthInRange dateInRange dayExists dateRefusal monthStart dayOf dayNumber seek monthHolding dateAt dateOf dayAfter isLastDay nextDay timeInRange timeRefusal secondsOf secondOfDay timeAfter isLastSecond nextSecond
 calendar-as-printed = (refl, refl, refl, refl, refl, refl, refl, refl)
+
+pub days-of-the-year-as-printed : TheDaysOfTheYearAreAsPrinted
+unfolding unless isLeap monthLength monthInRange dateInRange dayExists dateRefusal daysOfMonths yearDay dayOfYear
+days-of-the-year-as-printed = refl

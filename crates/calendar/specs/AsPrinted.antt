@@ -10,6 +10,7 @@ use Rattle.calendar.specs.declared.time.Time.{Time}
 use Rattle.calendar.specs.Literals.{date, time}
 use Rattle.calendar.specs.Calendar.{daysInMonth, monthStarts, dayNumber, dateOf, weekdayOf, nextDay}
 use Rattle.calendar.specs.TimeOfDay.{secondOfDay, nextSecond}
+use Rattle.calendar.specs.DayOfYear.{dayOfYear}
 
 -- "the day number of each month's first day stands in a table of 1,200 entries; it begins 0, 31, 60 and its last is 36,494"
 abbrev pub TheMonthStartsAreAsPrinted : Type 0
@@ -109,3 +110,76 @@ TheCalendarIsAsPrinted =
     × GivesTheTable nextDay daysAfter
     × GivesTheTable secondOfDay secondsOfTheDay
     × GivesTheTable nextSecond secondsAfter
+
+-- "the day of year must agree with the date": dates, each with its day of the year, or the number that refuses it
+abbrev pub daysOfTheYear : List (Date × Outcome ℕ)
+daysOfTheYear =
+    -- a year of 365 days: the first and the last day of each month
+    (date 1997 1 1, done 1)
+    ∷ (date 1997 1 31, done 31)
+    ∷ (date 1997 2 1, done 32)
+    ∷ (date 1997 2 28, done 59)
+    ∷ (date 1997 3 1, done 60)
+    ∷ (date 1997 3 31, done 90)
+    ∷ (date 1997 4 1, done 91)
+    ∷ (date 1997 4 30, done 120)
+    ∷ (date 1997 5 1, done 121)
+    ∷ (date 1997 5 31, done 151)
+    ∷ (date 1997 6 1, done 152)
+    ∷ (date 1997 6 30, done 181)
+    ∷ (date 1997 7 1, done 182)
+    ∷ (date 1997 7 31, done 212)
+    ∷ (date 1997 8 1, done 213)
+    ∷ (date 1997 8 31, done 243)
+    ∷ (date 1997 9 1, done 244)
+    ∷ (date 1997 9 30, done 273)
+    ∷ (date 1997 10 1, done 274)
+    ∷ (date 1997 10 31, done 304)
+    ∷ (date 1997 11 1, done 305)
+    ∷ (date 1997 11 30, done 334)
+    ∷ (date 1997 12 1, done 335)
+    ∷ (date 1997 12 31, done 365)
+    -- a leap year
+    ∷ (date 1996 1 1, done 1)
+    ∷ (date 1996 1 31, done 31)
+    ∷ (date 1996 2 1, done 32)
+    ∷ (date 1996 2 29, done 60)
+    ∷ (date 1996 3 1, done 61)
+    ∷ (date 1996 3 31, done 91)
+    ∷ (date 1996 4 1, done 92)
+    ∷ (date 1996 4 30, done 121)
+    ∷ (date 1996 5 1, done 122)
+    ∷ (date 1996 5 31, done 152)
+    ∷ (date 1996 6 1, done 153)
+    ∷ (date 1996 6 30, done 182)
+    ∷ (date 1996 7 1, done 183)
+    ∷ (date 1996 7 31, done 213)
+    ∷ (date 1996 8 1, done 214)
+    ∷ (date 1996 8 31, done 244)
+    ∷ (date 1996 9 1, done 245)
+    ∷ (date 1996 9 30, done 274)
+    ∷ (date 1996 10 1, done 275)
+    ∷ (date 1996 10 31, done 305)
+    ∷ (date 1996 11 1, done 306)
+    ∷ (date 1996 11 30, done 335)
+    ∷ (date 1996 12 1, done 336)
+    ∷ (date 1996 12 31, done 366)
+    -- the leap year of a full hundred, and the ends of the calendar
+    ∷ (date 2000 2 29, done 60)
+    ∷ (date 2000 12 31, done 366)
+    ∷ (date 1980 1 1, done 1)
+    ∷ (date 2079 12 31, done 365)
+    -- "day, month or year (1980 to 2079) out of range"
+    ∷ (date 1979 12 31, refused 6)
+    ∷ (date 2080 1 1, refused 6)
+    ∷ (date 1996 0 1, refused 6)
+    ∷ (date 1996 13 1, refused 6)
+    ∷ (date 1996 4 0, refused 6)
+    ∷ (date 1996 4 32, refused 6)
+    -- "no such day in that month"
+    ∷ (date 1997 2 29, refused 7)
+    ∷ (date 1996 4 31, refused 7)
+    ∷ []
+
+abbrev pub TheDaysOfTheYearAreAsPrinted : Type 0
+TheDaysOfTheYearAreAsPrinted = GivesTheTable dayOfYear daysOfTheYear
