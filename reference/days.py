@@ -113,6 +113,12 @@ def weekday_of(date):
     return weekday_of_number(day_number(date))
 
 
+def day_of_year(date):
+    """1 on 1 January to 365, or 366 in a leap year, on 31 December; 6 and 7 as for its day number."""
+    check(DATE_CONDITIONS, date)
+    return sum(days_in_month(date.year, month) for month in range(1, date.month)) + date.day
+
+
 def next_day(date):
     """The day after; 6 and 7 for a bad date, 12 after 31.12.2079."""
     check(DATE_CONDITIONS, date)

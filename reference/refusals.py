@@ -2,7 +2,7 @@
 
 LENGTH = 1             # the length is none of the table's
 FRAME = 2              # STX or ETX was wanted and is not at its end
-FIXED_PLACE = 3        # a space, CR or LF of the layout is not in its place
+FIXED_PLACE = 3        # a space, colon, point, slash, CR or LF of the layout is not in its place
 DECIMAL_PLACE = 4      # a decimal place holds something other than 0 to 9
 STATUS_OR_WEEKDAY = 5  # status or weekday that the layout does not allow
 RANGE = 6              # hour, minute, second, day, month or year out of range
@@ -16,6 +16,8 @@ BUFFER = 13            # the lent buffer is too short
 NO_DATE = 14           # a date is needed and there is none
 STATE = 15             # the reader's state is not well formed
 SETTING = 16           # the board does not offer the setting
+DAY_OF_YEAR = 17       # the day of the year is not the date's
+REQUEST = 18           # the bytes are no request
 
 
 class Refused(Exception):
