@@ -7,6 +7,8 @@ import sys
 sys.dont_write_bytecode = True  # leaves no files behind
 
 import days
+import leitch
+import leitch_cases
 import line
 import listing
 import making
@@ -14,11 +16,12 @@ import manual_examples
 import parameter
 import places
 import records
+import request_letters
 import telegrams
 from days import Date, Time
-from encoding import (LAYOUT_NUMBERS, answer_numbers, case, count_numbers, date_bytes, event_numbers, layout_number, line as printed,
-                      parameter_bytes, parameter_numbers, record_bytes, record_numbers, row_bytes, setting_number, state_bytes,
-                      state_numbers)
+from encoding import (LAYOUT_NUMBERS, answer_numbers, case, count_numbers, date_bytes, event_numbers, layout_number, leitch_bytes,
+                      line as printed, parameter_bytes, parameter_numbers, record_bytes, record_numbers, request_numbers, row_bytes,
+                      setting_number, state_bytes, state_numbers)
 from layouts import LAYOUTS, STATUS_AS_5500, STATUS_AS_6021, TIME_ONLY, length
 from places import CODE, DECIMAL, FIXED, SLOTS, Place
 from records import Dated, LocalSeconds, TimeOnly
@@ -34,7 +37,7 @@ SETTINGS = [None] + [Setting(control, advance) for advance in (False, True) for 
 
 RECORD = {5, 6, 7, 8}
 
-# Each entry point by its letter, and the refusals that document 01 gives to it; each has to occur.
+# Each entry point by its letter, and the refusals that documents 01 and 02 give to it; each has to occur.
 OWN_REFUSALS = {
     "D": {6, 7}, "d": {12}, "n": {6, 7, 12}, "M": {6}, "T": {6}, "t": {6},
     "J": RECORD, "B": set(), "N": RECORD | {12}, "C": RECORD | {14}, "Z": {12}, "U": RECORD | {12, 14},
@@ -45,6 +48,7 @@ OWN_REFUSALS = {
     "W": RECORD | {12, 13, 14}, "S": RECORD | {12, 13, 14},
     "f": set(), "w": set(), "F": {1, 3, 4, 5, 6, 7, 8, 9, 10, 15}, "V": {1, 3, 4, 5, 6, 7, 8, 9, 10, 15}, "E": {11, 15},
     "H": {13}, "G": RECORD | {13}, "X": {13},
+    "y": {6, 7}, "l": {1, 3, 4, 17} | RECORD, "e": RECORD | {13, 17}, "q": {18},
 }
 
 
@@ -313,6 +317,29 @@ def row_case(start, answer, room):
 def stray_case(stray, room):
     """The last row of the listing to write."""
     return in_buffer("X", stray.to_bytes(4, "big") + bytes([room]), room, ROW, lambda buffer: listing.write_stray(stray, buffer))
+
+
+# The day of the year, the Leitch answer, the request letters.
+
+def day_of_year_case(date):
+    """A date whose day of the year is wanted."""
+    return answered("y", date_bytes(date), outcome(days.day_of_year, date), one)
+
+
+def leitch_read_case(text):
+    """Bytes to read as a Leitch answer."""
+    return answered("l", text, outcome(leitch.read_answer, text), list)
+
+
+def leitch_write_case(answer, room):
+    """A Leitch answer to write into a buffer of so many bytes."""
+    given = bytes([room]) + leitch_bytes(answer)
+    return in_buffer("e", given, room, ONE, lambda buffer: leitch.write_answer(answer, buffer))
+
+
+def request_case(text):
+    """Bytes to read as a request."""
+    return answered("q", text, outcome(request_letters.read_request, text), request_numbers)
 
 
 # --- reading ---
@@ -607,6 +634,20 @@ def other_row_cases(dice):
             yield stray_case(stray, room)
 
 
+# --- the day of the year, the Leitch answer, the request letters ---
+
+def leitch_and_request_cases(dice):
+    """Dates, bytes and answers, good and wrong."""
+    for date in leitch_cases.dates(dice):
+        yield day_of_year_case(date)
+    for text in leitch_cases.texts(dice):
+        yield leitch_read_case(text)
+    for room, answer in leitch_cases.writes(dice):
+        yield leitch_write_case(answer, room)
+    for text in leitch_cases.requests(dice):
+        yield request_case(text)
+
+
 def all_cases(seed=SEED):
     """Every case, in the order in which the program gets them."""
     dice = random.Random(seed)
@@ -625,3 +666,4 @@ def all_cases(seed=SEED):
     yield from line_cases(dice)
     yield from row_cases(dice)
     yield from other_row_cases(dice)
+    yield from leitch_and_request_cases(dice)

@@ -7,10 +7,12 @@ behind it: a refusal is its number, and anything else is 0 and its values. The h
 from layouts import TIME_ONLY
 from places import CODE, DECIMAL, FIXED
 from records import UtcSeconds, is_time_only
+from request_letters import TIME, TIME_AND_DATE, UTC_TIME_AND_DATE
 
 RECEPTIONS = ["invalid", "crystal", "radio", "high"]
 LAYOUT_NUMBERS = ["6021", "2000", "5500", "5050", "6021t", "5500t", "5050t"]
 PARITY_NUMBERS = ["none", "even", "odd"]
+ASKED_NUMBERS = [TIME, TIME_AND_DATE, UTC_TIME_AND_DATE]
 FIRST_PLACE = {FIXED: 0, DECIMAL: 128, CODE: 160}
 
 
@@ -62,6 +64,13 @@ def parameter_bytes(parameter):
     return bytes([parameter.utc, parameter.data_bits, parity, parameter.stop_bits]) + parameter.baud.to_bytes(4, "big")
 
 
+def leitch_bytes(answer):
+    """Thirteen bytes: time, milliseconds, date, day of the year, weekday, status. The milliseconds, the year and the day of the year
+    have two."""
+    time = bytes([answer.hour, answer.minute, answer.second]) + answer.millisecond.to_bytes(2, "big")
+    return time + date_bytes(answer) + answer.day_of_year.to_bytes(2, "big") + bytes([answer.weekday, answer.status])
+
+
 # --- what comes out ---
 
 def line(numbers):
@@ -110,3 +119,8 @@ def parameter_numbers(parameter):
     """The fields of a parameter byte."""
     parity = PARITY_NUMBERS.index(parameter.parity)
     return [parameter.utc, parameter.data_bits, parity, parameter.stop_bits, parameter.baud]
+
+
+def request_numbers(request):
+    """What is asked for, and the delay in milliseconds."""
+    return [ASKED_NUMBERS.index(request.asked), request.delay]
