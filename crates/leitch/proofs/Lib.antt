@@ -1,0 +1,5 @@
+pub mod RuleLaws
+pub mod Carried
+pub mod BackAndForth
+pub mod ReadLaws
+pub mod WriteLaws

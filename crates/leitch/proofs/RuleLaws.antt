@@ -1,0 +1,45 @@
+-- Laws of the rules for a reply. Assumes nothing.
+use mathlib.Core.Path.{_≡_, sym, _∙_}
+use mathlib.Core.Bool.{true, not, _&&_}
+use Prim.Native.Nat.{ℕ, _≤_}
+use lib.Dec.{leb}
+use borrow.Author.Tests.{not-false, leb-true, eqb-true}
+use Rattle.refusals.specs.Refusals.{_when_, _else_, Outcome, done, refused}
+use Rattle.refusals.proofs.Laws.{both, when-none, else-none, else-assoc}
+use Rattle.calendar.specs.Calendar.{dateInRange, dayExists, dateRefusal}
+use Rattle.calendar.specs.TimeOfDay.{timeInRange}
+use Rattle.leitch.specs.declared.Reply.{Reply}
+use Rattle.leitch.specs.Rule.{statusListed, weekdayListed, allInRange, weekdayAgrees, fieldsRefusal}
+
+module _ (reply : Reply) where
+  -- behind a good status, weekday, time and millisecond stand the date's own refusal and the weekday's
+  pub date-decides : statusListed (reply .status) ≡ true → weekdayListed (reply .weekday) ≡ true → timeInRange (reply .time) ≡ true
+      → leb (reply .millisecond) 999 ≡ true
+      → fieldsRefusal reply ≡ (dateRefusal (reply .date) else 8 when not (weekdayAgrees (reply .weekday) (reply .date)))
+  unfolding fieldsRefusal allInRange dateRefusal
+  date-decides s w t m =
+      rw (s, w, t, m) (else-assoc (6 when not (dateInRange (reply .date))) (7 when not (dayExists (reply .date))) _)
+
+  -- a reply that no rule for its fields refuses
+  pub record Good : Type 0 where
+    pub status-listed : statusListed (reply .status) ≡ true
+    pub weekday-listed : weekdayListed (reply .weekday) ≡ true
+    pub time-in-range : timeInRange (reply .time) ≡ true
+    pub millisecond-small : reply .millisecond ≤ 999
+    pub date-good : dateRefusal (reply .date) ≡ 0
+
+  pub good : fieldsRefusal reply ≡ 0 → Good
+  unfolding fieldsRefusal allInRange
+  good none =
+      let five = else-none (5 when not (statusListed (reply .status) && weekdayListed (reply .weekday))) _ none in
+      let six = else-none (6 when not (timeInRange (reply .time) && (leb (reply .millisecond) 999 && dateInRange (reply .date)))) _ (five .1) in
+      let listed = both _ _ (not-false _ (when-none 4 _ (five .0))) in
+      let range = both _ _ (not-false _ (when-none 5 _ (six .0))) in
+      let small = both _ _ (range .1) .0 in
+      record {
+        status-listed = listed .0;
+        weekday-listed = listed .1;
+        time-in-range = range .0;
+        millisecond-small = leb-true _ _ small;
+        date-good = else-none _ _ (sym (date-decides (listed .0) (listed .1) (range .0) small) ∙ none) .0;
+      }
