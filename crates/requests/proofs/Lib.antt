@@ -1,0 +1,4 @@
+pub mod ReadLaws
+pub mod Whole
+pub mod AsPrintedHolds
+pub mod ExactlyHolds
