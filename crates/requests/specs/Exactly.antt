@@ -21,7 +21,7 @@ withCount asked count = smallOf asked ∷ codeCharacter (count / 16) ∷ codeCha
 abbrev pub ACapitalLetterAsksAtOnce : Type 0
 ACapitalLetterAsksAtOnce = (asked : Asked) → requestOf (atOnce asked) ≡ done (request asked 0)
 
--- each small letter, with any count, asks for the same "with a delay of ten milliseconds a count"
+-- each small letter, with any count, asks for the same after "a delay of ten milliseconds a count"
 abbrev pub ASmallLetterAsksAfterItsCount : Type 0
 ASmallLetterAsksAfterItsCount =
     (asked : Asked) (count : ℕ) → count < 256 → requestOf (withCount asked count) ≡ done (request asked (10 * count))

@@ -12,6 +12,7 @@ use Rattle.requests.specs.declared.Asked.{Asked}
 use Rattle.requests.specs.declared.Asked.the-variants.{Time, TimeAndDate, UtcTimeAndDate}
 use Rattle.requests.specs.declared.Request.{Request}
 
+-- the byte of a letter
 abbrev pub letter : String → ℕ
 letter text = getD (ascii text) 0 0
 
@@ -27,7 +28,7 @@ smallOf Time = letter "u"
 smallOf TimeAndDate = letter "d"
 smallOf UtcTimeAndDate = letter "g"
 
--- "the request letters U, D, G": alone
+-- "the request letters U, D, G": each alone
 abbrev pub alone : Asked → List Place
 alone asked = fixed (capitalOf asked) ∷ []
 
@@ -65,6 +66,7 @@ delayFor high low = 10 * (16 * high + low)
 abbrev pub delayOf : List ℕ → ℕ
 delayOf digits = delayFor (getD digits 0 0) (getD digits 1 0)
 
+-- what is asked for, and how many milliseconds the answer waits
 abbrev pub request : Asked → ℕ → Request
 request asked delay = record { asked = asked; «delay_ms» = delay }
 
@@ -78,5 +80,6 @@ requestIn [] bytes = noRequest
 requestIn (row ∷ more) bytes =
     cond (fits (row .1) bytes) (done (request (row .0) (delayOf (gather (row .1) bytes noDigits)))) (requestIn more bytes)
 
+-- any bytes: one of the six rows, or no request
 unfoldable pub requestOf : List ℕ → Outcome Request
 requestOf bytes = requestIn requestRows bytes
