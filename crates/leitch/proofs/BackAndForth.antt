@@ -45,14 +45,17 @@ pub length-reply : (reply : Reply) → length (replyBytes reply) ≡ 31
 unfolding replyBytes
 length-reply reply = length-render replyRow (digitsOut reply) ∙ row-length
 
--- a day of the year that agrees with a date of the calendar is small
-day-small : (reply : Reply) → fieldsRefusal reply ≡ 0 → dayRefusal reply ≡ 0 → reply .«day_of_year» ≤ 999
+-- a day of the year that agrees with a date of the calendar is one of a year
+pub days-of-a-year : (reply : Reply) → fieldsRefusal reply ≡ 0 → dayRefusal reply ≡ 0 → reply .«day_of_year» ≤ 366
 unfolding dayRefusal dayAgrees dayOfYear unless
-day-small reply fields day =
+days-of-a-year reply fields day =
     let none = good reply fields .date-good in
     let agrees = not-false (is (dayOfYear (reply .date)) (reply .«day_of_year»)) (when-none 16 _ day) in
     let same = eqb-true (yearDay (reply .date)) (reply .«day_of_year») (rw none at agrees) in
     omega (arith, year-day-bounds (reply .date) (dates.good (reply .date) none), same)
+
+day-small : (reply : Reply) → fieldsRefusal reply ≡ 0 → dayRefusal reply ≡ 0 → reply .«day_of_year» ≤ 999
+day-small reply fields day = omega (arith, days-of-a-year reply fields day)
 
 -- A good reply's characters read as that reply.
 module _ (reply : Reply) (fields : fieldsRefusal reply ≡ 0) (day : dayRefusal reply ≡ 0) where
@@ -97,14 +100,28 @@ module _ (bytes : List ℕ) (same : length bytes ≡ 31) (fits : rowFault replyR
       bytes-back (gather replyRow bytes noDigits) (held-gather replyRow bytes row-distinct row-sound size (tests .1) (tests .2))
       ∙ makes-again replyRow bytes noDigits row-distinct row-sound size refl (tests .0) (tests .1) (tests .2)
 
-pub read-is-written : WhatIsReadIsWritten
-unfolding replyOf replyRefusal written
-read-is-written bytes reply room e enough =
+-- what is read: a reply that no rule refuses, and its characters
+pub record Accepted (bytes : List ℕ) (reply : Reply) : Type 0 where
+  pub fields : fieldsRefusal reply ≡ 0
+  pub day : dayRefusal reply ≡ 0
+  pub is-written : replyBytes reply ≡ bytes
+
+pub accepted : (bytes : List ℕ) (reply : Reply) → replyOf bytes ≡ done reply → Accepted bytes reply
+unfolding replyOf replyRefusal
+accepted bytes reply e =
     let told = was-done _ (carried bytes) reply e in
     let one = else-none (1 when not (eqb (length bytes) 31)) _ (told .0) in
     let row = else-none (rowFault replyRow bytes) _ (one .1) in
-    let fields = else-none (fieldsRefusal (carried bytes)) _ (row .1) in
+    let rules = else-none (fieldsRefusal (carried bytes)) _ (row .1) in
     let size = eqb-true _ 31 (not-false _ (when-none 0 _ (one .0))) in
-    rw (← told .1)
-    (rw (fields .0, fields .1, le-ltb room 31 enough) (does (replyBytes (carried bytes)) refl)
-    ∙ ap done (bytes-again bytes size (row .0)))
+    record {
+      fields = ap fieldsRefusal (sym (told .1)) ∙ rules .0;
+      day = ap dayRefusal (sym (told .1)) ∙ rules .1;
+      is-written = ap replyBytes (sym (told .1)) ∙ bytes-again bytes size (row .0);
+    }
+
+pub read-is-written : WhatIsReadIsWritten
+unfolding written
+read-is-written bytes reply room e enough =
+    let a = accepted bytes reply e in
+    rw (a .fields, a .day, le-ltb room 31 enough) (does (replyBytes reply) refl ∙ ap done (a .is-written))

@@ -16,8 +16,6 @@ use Rattle.places.proofs.Rows.{usedIn, most, allShown, Held}
 use Rattle.places.proofs.RoundTrip.{held-most}
 use Rattle.calendar.specs.Ranges.{inside}
 use Rattle.calendar.proofs.Dates as dates
-use Rattle.calendar.proofs.Months.{month-28-to-31}
-use Rattle.calendar.proofs.Times as times
 use Rattle.record.specs.declared.DatedLayout.the-variants.{L6021}
 use Rattle.layouts.specs.Coding.{number, fullYear}
 use Rattle.layouts.proofs.CodingLaws.{pair-back, tens-back, ones-back, year-back, year-low}
@@ -25,10 +23,10 @@ use Rattle.leitch.specs.declared.Reply.{Reply}
 use Rattle.leitch.specs.Row.{replyRow}
 use Rattle.leitch.specs.Coding.{numberOfThree, replyIn, digitsOut}
 use Rattle.leitch.specs.Rule.{statusListed, weekdayListed}
-use Rattle.leitch.proofs.RuleLaws.{Good}
+use Rattle.leitch.proofs.RuleLaws.{Good, time-good, date-good, day-of-month, weekday-1-to-7}
 
 -- three digits and their number
-four-bits : (n : ℕ) → n ≤ 15 → n % 16 ≡ n
+pub four-bits : (n : ℕ) → n ≤ 15 → n % 16 ≡ n
 four-bits n small = omega arith
 
 module _ (n : ℕ) (small : n ≤ 999) where
@@ -55,7 +53,7 @@ module _ (a b c : ℕ) (a-small : a ≤ 9) (b-small : b ≤ 9) (c-small : c ≤ 
   ones-of-three = rw made (omega arith)
 
 -- a listed status is one of the characters that have four bits
-listed-fits : (status : ℕ) → statusListed status ≡ true → (isDecimal status || isCapital status) ≡ true
+pub listed-fits : (status : ℕ) → statusListed status ≡ true → (isDecimal status || isCapital status) ≡ true
 unfolding statusListed
 listed-fits status e = go (inside 48 status 51) refl e
   where
@@ -75,36 +73,23 @@ empty (suc n) (suc slot) = empty n slot
 
 -- A good reply, from its digits.
 module _ (reply : Reply) (g : Good reply) (day-small : reply .«day_of_year» ≤ 999) where
-  date-good : dates.Good (reply .date)
-  date-good = dates.good (reply .date) (g .date-good)
-
-  time-good : times.Good (reply .time)
-  time-good = times.good-range (reply .time) (g .time-in-range)
-
-  day-of-month : reply .date .day ≤ 31
-  day-of-month = omega (arith, date-good .to-day, month-28-to-31 (reply .date .year) (reply .date .month) .1)
-
-  weekday-bound : reply .weekday ≤ 7
-  unfolding weekdayListed
-  weekday-bound = dates.inside-both 1 (reply .weekday) 7 (g .weekday-listed) .1
-
   pub reply-back : replyIn (digitsOut reply) ≡ reply
   reply-back =
-      let weekday-whole : reply .weekday % 16 ≡ reply .weekday = omega (arith, weekday-bound) in
+      let weekday-whole : reply .weekday % 16 ≡ reply .weekday = omega (arith, weekday-1-to-7 reply g) in
       λ i.
       record {
         time =
             record {
-              hour = pair-back (reply .time .hour) (omega (arith, time-good)) i;
-              minute = pair-back (reply .time .minute) (omega (arith, time-good)) i;
-              second = pair-back (reply .time .second) (omega (arith, time-good)) i;
+              hour = pair-back (reply .time .hour) (omega (arith, time-good reply g)) i;
+              minute = pair-back (reply .time .minute) (omega (arith, time-good reply g)) i;
+              second = pair-back (reply .time .second) (omega (arith, time-good reply g)) i;
             };
         millisecond = three-back (reply .millisecond) (g .millisecond-small) i;
         date =
             record {
-              year = year-back L6021 (reply .date .year) (date-good .from-year) (date-good .to-year) i;
-              month = pair-back (reply .date .month) (omega (arith, date-good)) i;
-              day = pair-back (reply .date .day) (omega (arith, day-of-month)) i;
+              year = year-back L6021 (reply .date .year) (date-good reply g .from-year) (date-good reply g .to-year) i;
+              month = pair-back (reply .date .month) (omega (arith, date-good reply g)) i;
+              day = pair-back (reply .date .day) (omega (arith, day-of-month reply g)) i;
             };
         «day_of_year» = three-back (reply .«day_of_year») day-small i;
         weekday = weekday-whole i;
@@ -117,7 +102,7 @@ module _ (reply : Reply) (g : Good reply) (day-small : reply .«day_of_year» �
 
   shown-digits : allShown (digitsOut reply) replyRow
   unfolding replyRow
-  shown-digits = omega (arith, status-top, weekday-bound, time-good, date-good, day-of-month)
+  shown-digits = omega (arith, status-top, weekday-1-to-7 reply g, time-good reply g, date-good reply g, day-of-month)
 
   idle-digits : (slot : ℕ) → usedIn slot replyRow ≡ false → getD (digitsOut reply) slot 0 ≡ 0
   idle-digits slot unused = go (ltb slot 20) refl
@@ -144,9 +129,9 @@ abbrev AllSame : List ℕ → List ℕ → List Place → Type 0
 AllSame a b [] = Unit {0}
 AllSame a b (p ∷ row) = sameAt a b p × AllSame a b row
 
-infixr 5 _then_
-_then_ : {A B : Type 0} → A → B → A × B
-_then_ a b = (a, b)
+infixr 5 _also_
+pub _also_ : {A B : Type 0} → A → B → A × B
+_also_ a b = (a, b)
 
 same-byte : (a b : List ℕ) (p : Place) → sameAt a b p → byteAt a p ≡ byteAt b p
 same-byte a b (fixed character) e = refl
@@ -189,17 +174,17 @@ module _ (digits : List ℕ) (h : Held replyRow digits) where
       let ms = digits-of-three 14 refl refl refl in
       let day = digits-of-three 17 refl refl refl in
       let status = top 0 15 refl in
-      tens 2 refl refl then ones 2 refl refl then tt
-      then tens 4 refl refl then ones 4 refl refl then tt
-      then tens 6 refl refl then ones 6 refl refl then tt
-      then ms .0 then ms .1 then ms .2 then tt
-      then tens 8 refl refl then ones 8 refl refl then tt
-      then tens 10 refl refl then ones 10 refl refl then tt
-      then ap (λ y. y / 10) year-digits ∙ tens 12 refl refl then ap (λ y. y % 10) year-digits ∙ ones 12 refl refl then tt
-      then day .0 then day .1 then day .2 then tt
-      then four-bits _ (top 1 15 refl) then tt
-      then value-of-character _ (omega arith) ∙ four-bits _ status
-      then tt then tt then tt
+      tens 2 refl refl also ones 2 refl refl also tt
+      also tens 4 refl refl also ones 4 refl refl also tt
+      also tens 6 refl refl also ones 6 refl refl also tt
+      also ms .0 also ms .1 also ms .2 also tt
+      also tens 8 refl refl also ones 8 refl refl also tt
+      also tens 10 refl refl also ones 10 refl refl also tt
+      also ap (λ y. y / 10) year-digits ∙ tens 12 refl refl also ap (λ y. y % 10) year-digits ∙ ones 12 refl refl also tt
+      also day .0 also day .1 also day .2 also tt
+      also four-bits _ (top 1 15 refl) also tt
+      also value-of-character _ (omega arith) ∙ four-bits _ status
+      also tt also tt also tt
 
   pub bytes-back : render replyRow (digitsOut (replyIn digits)) ≡ render replyRow digits
   bytes-back = same-bytes replyRow (digitsOut (replyIn digits)) digits all-same

@@ -3,3 +3,6 @@ pub mod Carried
 pub mod BackAndForth
 pub mod ReadLaws
 pub mod WriteLaws
+pub mod Spelled
+pub mod AsPrintedHolds
+pub mod Whole

@@ -1,13 +1,17 @@
 -- Laws of the rules for a reply. Assumes nothing.
 use mathlib.Core.Path.{_≡_, sym, _∙_}
 use mathlib.Core.Bool.{true, not, _&&_}
-use Prim.Native.Nat.{ℕ, _≤_}
+use Prim.Native.Nat.{_≤_}
+use native.Mathlib.Omega.{arith}
 use lib.Dec.{leb}
-use borrow.Author.Tests.{not-false, leb-true, eqb-true}
-use Rattle.refusals.specs.Refusals.{_when_, _else_, Outcome, done, refused}
+use borrow.Author.Tests.{not-false, leb-true}
+use Rattle.refusals.specs.Refusals.{_when_, _else_}
 use Rattle.refusals.proofs.Laws.{both, when-none, else-none, else-assoc}
 use Rattle.calendar.specs.Calendar.{dateInRange, dayExists, dateRefusal}
 use Rattle.calendar.specs.TimeOfDay.{timeInRange}
+use Rattle.calendar.proofs.Dates as dates
+use Rattle.calendar.proofs.Months.{month-28-to-31}
+use Rattle.calendar.proofs.Times as times
 use Rattle.leitch.specs.declared.Reply.{Reply}
 use Rattle.leitch.specs.Rule.{statusListed, weekdayListed, allInRange, weekdayAgrees, fieldsRefusal}
 
@@ -43,3 +47,18 @@ module _ (reply : Reply) where
         millisecond-small = leb-true _ _ small;
         date-good = else-none _ _ (sym (date-decides (listed .0) (listed .1) (range .0) small) ∙ none) .0;
       }
+
+-- what the fields of such a reply are
+module _ (reply : Reply) (g : Good reply) where
+  pub time-good : times.Good (reply .time)
+  time-good = times.good-range (reply .time) (g .time-in-range)
+
+  pub date-good : dates.Good (reply .date)
+  date-good = dates.good (reply .date) (g .date-good)
+
+  pub day-of-month : reply .date .day ≤ 31
+  day-of-month = omega (arith, date-good .to-day, month-28-to-31 (reply .date .year) (reply .date .month) .1)
+
+  pub weekday-1-to-7 : (1 ≤ reply .weekday) × (reply .weekday ≤ 7)
+  unfolding weekdayListed
+  weekday-1-to-7 = dates.inside-both 1 (reply .weekday) 7 (g .weekday-listed)

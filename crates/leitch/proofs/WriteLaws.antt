@@ -45,5 +45,5 @@ module _ (reply : Reply) (out : List ℕ) where
           let size = length-reply reply in
           let is-written : written reply (length out) ≡ done (replyBytes reply) = rw (good, le-ltb _ 31 enough) (does (replyBytes reply) agrees) in
           let bytes : last ≡ replyBytes reply ++ drop (length (replyBytes reply)) out =
-              made ∙ ap₂ (λ r d. over (render r d) out) (row-kept row kept) carry ∙ ap (λ b. b ++ drop (length (replyBytes reply)) out) (take-all (length out) (replyBytes reply) (omega arith)) in
+          made ∙ ap₂ (λ r d. over (render r d) out) (row-kept row kept) carry ∙ ap (λ b. b ++ drop (length (replyBytes reply)) out) (take-all (length out) (replyBytes reply) (omega arith)) in
           ap (λ o. laid o out) is-written ∙ laid-fits (replyBytes reply) out (omega arith) ∙ ap₂ (λ k l. (done k, l)) size (sym bytes)

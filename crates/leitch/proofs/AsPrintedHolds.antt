@@ -1,0 +1,27 @@
+-- The reply is as printed: computed from the definitions, and for every reply from the row. Assumes nothing.
+use mathlib.Core.Path.{refl}
+use Rattle.refusals.specs.Refusals.{unless}
+use Rattle.places.specs.Places.{isDecimal, isCapital, codeValue, codeCharacter, render}
+use Rattle.calendar.specs.Calendar.{isLeap, monthLength, monthInRange, dateInRange, dayExists, dateRefusal, monthStart, dayOf}
+use Rattle.calendar.specs.DayOfYear.{daysOfMonths, yearDay, dayOfYear}
+use Rattle.calendar.specs.TimeOfDay.{timeInRange}
+use Rattle.leitch.specs.Row.{replyRow}
+use Rattle.leitch.specs.Rule.{statusListed, weekdayListed, allInRange, weekdayAgrees, fieldsRefusal, dayAgrees, dayRefusal}
+use Rattle.leitch.specs.Reading.{carried, replyRefusal, replyOf}
+use Rattle.leitch.specs.Writing.{replyBytes, written}
+use Rattle.leitch.specs.AsPrinted.{TheReplyIsAsPrinted}
+use Rattle.leitch.proofs.Spelled.{says, listed}
+
+pub as-printed : TheReplyIsAsPrinted
+unfolding unless isDecimal isCapital codeValue codeCharacter render isLeap monthLength monthInRange dateInRange dayExists dateRefusal monthStart dayOf daysOfMonths yearDay dayOfYear timeInRange replyRow statusListed weekdayListed allInRange weekdayAgrees fieldsRefusal dayAgrees dayRefusal carried replyRefusal replyOf replyBytes written
+as-printed =
+    record {
+      numbered = refl;
+      says = says;
+      listed = listed;
+      taken = refl;
+      repliesRead = refl;
+      repliesWritten = refl;
+      repliesRefused = refl;
+      writesRefused = refl;
+    }
