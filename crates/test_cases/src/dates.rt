@@ -6,6 +6,7 @@ use calendar::date::DayAnswer;
 use calendar::date::DaysAnswer;
 use calendar::time::NextSecondAnswer;
 use calendar::time::SecondAnswer;
+use calendar::year::YearDayAnswer;
 
 pub(crate) fn day_number(bytes: &[u8]) {
     match calendar::date::day_number(inputs::date(bytes)) {
@@ -44,6 +45,16 @@ pub(crate) fn days_in_month(bytes: &[u8]) {
             outputs::print(days as u64);
         }
         DaysAnswer::Refused(number) => outputs::print(number as u64),
+    }
+}
+
+pub(crate) fn day_of_year(bytes: &[u8]) {
+    match calendar::year::day_of_year(inputs::date(bytes)) {
+        YearDayAnswer::Day(day) => {
+            outputs::print(0);
+            outputs::print(day as u64);
+        }
+        YearDayAnswer::Refused(number) => outputs::print(number as u64),
     }
 }
 

@@ -5,6 +5,7 @@
 //   d        the date of a day number
 //   n        the next day of a date
 //   M        the days of a month
+//   y        the day of the year of a date
 //   T        the second of the day of a time
 //   t        the next second of a time
 //   J        the refusal of a record
@@ -33,6 +34,9 @@
 //   H        writes the header of the listing: the buffer's length
 //   G        writes a row of the listing: its start, the buffer's length, an outcome
 //   X        writes the last row of the listing: the stray bytes, the buffer's length
+//   l        reads the bytes as a reply to a Leitch generator
+//   e        writes a reply: the buffer's length, the reply
+//   q        reads the bytes as a request
 mod boards;
 mod dates;
 mod digits;
@@ -40,6 +44,8 @@ mod inputs;
 mod lines;
 mod outputs;
 mod records;
+mod replies;
+mod request_letters;
 mod rows;
 mod telegrams;
 
@@ -51,6 +57,7 @@ fn run(letter: u8, bytes: &[u8]) {
         b'd' => dates::date(bytes),
         b'n' => dates::next_day(bytes),
         b'M' => dates::days_in_month(bytes),
+        b'y' => dates::day_of_year(bytes),
         b'T' => dates::second_of_day(bytes),
         b't' => dates::next_second(bytes),
         b'J' => records::refusal(bytes),
@@ -81,6 +88,9 @@ fn run(letter: u8, bytes: &[u8]) {
         b'H' => rows::header(bytes),
         b'G' => rows::row(bytes),
         b'X' => rows::stray_line(bytes),
+        b'l' => replies::reads(bytes),
+        b'e' => replies::writes(bytes),
+        b'q' => request_letters::reads(bytes),
         _ => {}
     }
     outputs::end_line();
