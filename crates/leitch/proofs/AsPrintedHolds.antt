@@ -1,4 +1,4 @@
--- The reply is as printed: computed from the definitions, and for every reply from the row. Assumes nothing.
+-- The reply is as printed, computed from the definitions. Assumes nothing.
 use mathlib.Core.Path.{refl}
 use Rattle.refusals.specs.Refusals.{unless}
 use Rattle.places.specs.Places.{isDecimal, isCapital, codeValue, codeCharacter, render}
@@ -10,18 +10,16 @@ use Rattle.leitch.specs.Rule.{statusListed, weekdayListed, allInRange, w
 use Rattle.leitch.specs.Reading.{carried, replyRefusal, replyOf}
 use Rattle.leitch.specs.Writing.{replyBytes, written}
 use Rattle.leitch.specs.AsPrinted.{TheReplyIsAsPrinted}
-use Rattle.leitch.proofs.Spelled.{says, listed}
 
 pub as-printed : TheReplyIsAsPrinted
 unfolding unless isDecimal isCapital codeValue codeCharacter render isLeap monthLength monthInRange dateInRange dayExists dateRefusal monthStart dayOf daysOfMonths yearDay dayOfYear timeInRange replyRow statusListed weekdayListed allInRange weekdayAgrees fieldsRefusal dayAgrees dayRefusal carried replyRefusal replyOf replyBytes written
 as-printed =
     record {
       numbered = refl;
-      says = says;
-      listed = listed;
       taken = refl;
       repliesRead = refl;
       repliesWritten = refl;
+      repliesSay = refl;
       repliesRefused = refl;
       writesRefused = refl;
     }

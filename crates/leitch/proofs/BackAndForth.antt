@@ -1,25 +1,23 @@
 -- What is written reads back, and what is read is what is written. Assumes nothing.
 use mathlib.Core.Path.{_≡_, refl, ap, sym, _∙_}
-use mathlib.Core.Bool.{Bool, true, not}
-use mathlib.Core.List.{List, map}
+use mathlib.Core.Bool.{true, not}
+use mathlib.Core.List.{List}
 use Prim.Native.Nat.{ℕ, _≤_}
 use native.Mathlib.Omega.{arith}
 use lib.Dec.{ltb, eqb}
 use lib.ListN.{length}
 use borrow.Author.Tests.{not-false, eqb-true, eq-eqb, le-ltb}
-use Rattle.refusals.specs.Refusals.{_when_, _else_, done, unless}
+use Rattle.refusals.specs.Refusals.{_when_, done, unless}
 use Rattle.refusals.proofs.Laws.{was-done, does, when-none, else-none}
-use Rattle.places.specs.Places.{place, fixedHolds, decimalHolds, codeHolds, every, gather, rowFault, noDigits, render}
+use Rattle.places.specs.Places.{fixedHolds, decimalHolds, codeHolds, every, gather, rowFault, noDigits}
 use Rattle.places.proofs.Rendering.{length-render}
 use Rattle.places.proofs.Rows.{distinct, sound}
 use Rattle.places.proofs.RoundTrip.{fixed-rendered, decimals-rendered, codes-rendered, reads-back, makes-again, held-gather}
-use Rattle.calendar.specs.declared.date.Date.{Date}
-use Rattle.calendar.specs.Calendar.{dateRefusal}
 use Rattle.calendar.specs.DayOfYear.{yearDay, dayOfYear}
 use Rattle.calendar.proofs.Dates as dates
 use Rattle.calendar.proofs.Years.{year-day-bounds}
 use Rattle.leitch.specs.declared.Reply.{Reply}
-use Rattle.leitch.specs.Row.{replyRow, rowNumbers}
+use Rattle.leitch.specs.Row.{replyRow}
 use Rattle.leitch.specs.Coding.{replyIn, digitsOut}
 use Rattle.leitch.specs.Rule.{is, dayAgrees, fieldsRefusal, dayRefusal}
 use Rattle.leitch.specs.Reading.{carried, replyRefusal, replyOf}

@@ -3,7 +3,7 @@
 use mathlib.Core.Path.{_≡_, refl, ap, ap₂, sym, _∙_}
 use mathlib.Core.Bool.{Bool, true, false, _||_, or-true}
 use mathlib.Core.List.{List, [], _∷_}
-use Prim.Native.Nat.{ℕ, zero, suc, _+_, _-_, _*_, _/_, _%_, _≤_, _<_}
+use Prim.Native.Nat.{ℕ, zero, suc, _+_, _-_, _*_, _/_, _%_, _≤_}
 use native.Mathlib.Omega.{arith}
 use lib.Dec.{ltb}
 use lib.ListN.{getD, replicate}
@@ -22,7 +22,7 @@ use Rattle.layouts.proofs.CodingLaws.{pair-back, tens-back, ones-back, year-bac
 use Rattle.leitch.specs.declared.Reply.{Reply}
 use Rattle.leitch.specs.Row.{replyRow}
 use Rattle.leitch.specs.Coding.{numberOfThree, replyIn, digitsOut}
-use Rattle.leitch.specs.Rule.{statusListed, weekdayListed}
+use Rattle.leitch.specs.Rule.{statusListed}
 use Rattle.leitch.proofs.RuleLaws.{Good, time-good, date-good, day-of-month, weekday-1-to-7}
 
 -- three digits and their number

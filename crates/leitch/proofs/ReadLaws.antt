@@ -4,7 +4,7 @@ use mathlib.Core.List.{List, map}
 use Prim.Native.Nat.{ℕ}
 use lib.ListN.{length}
 use borrow.Author.Tests.{eq-eqb, ne-eqb}
-use Rattle.refusals.specs.Refusals.{_else_, done, refused, unless}
+use Rattle.refusals.specs.Refusals.{done, refused, unless}
 use Rattle.refusals.proofs.Laws.{refuses, refuses-first, does}
 use Rattle.places.specs.Places.{place, rowFault, foundIn}
 use Rattle.places.specs.declared.Found.{Found}

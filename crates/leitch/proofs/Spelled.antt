@@ -1,6 +1,6 @@
 -- The characters of any reply that is read are those of the printed table. Assumes nothing.
 use mathlib.Core.Path.{_≡_, refl, ap, ap₂, sym, _∙_}
-use mathlib.Core.Bool.{true, _||_, or-false}
+use mathlib.Core.Bool.{true, or-false}
 use mathlib.Core.List.{List, [], _∷_}
 use Prim.Native.Nat.{ℕ, _+_, _/_, _%_, _≤_}
 use native.Mathlib.Omega.{arith}
@@ -13,7 +13,7 @@ use Rattle.leitch.specs.Row.{replyRow}
 use Rattle.leitch.specs.Rule.{statusListed}
 use Rattle.leitch.specs.Reading.{replyOf}
 use Rattle.leitch.specs.Writing.{replyBytes}
-use Rattle.leitch.specs.AsPrinted.{printed, asPrinted, among, EachListed}
+use Rattle.leitch.specs.AsPrinted.{printed, asPrinted, among, EachListed, EveryReplyIsAsPrinted}
 use Rattle.leitch.proofs.RuleLaws.{Good, good, time-good, date-good, day-of-month, weekday-1-to-7}
 use Rattle.leitch.proofs.Carried.{four-bits, listed-fits, _also_}
 use Rattle.leitch.proofs.BackAndForth.{days-of-a-year, Accepted, accepted}
@@ -107,8 +107,11 @@ module _ (bytes : List ℕ) (told : Reply) (e : replyOf bytes ≡ done told) whe
   days : told .«day_of_year» ≤ 366
   days = days-of-a-year told (read-well .fields) (read-well .day)
 
-  pub says : bytes ≡ asPrinted told
+  says : bytes ≡ asPrinted told
   says = sym (read-well .is-written) ∙ spelled told (good told (read-well .fields)) days
 
-  pub listed : EachListed printed bytes
+  listed : EachListed printed bytes
   listed = rw says (all-listed told (good told (read-well .fields)) days)
+
+pub every-as-printed : EveryReplyIsAsPrinted
+every-as-printed bytes told e = (says bytes told e, listed bytes told e)

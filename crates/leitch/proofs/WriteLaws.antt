@@ -1,12 +1,12 @@
 -- The ways in which writing a reply ends, over the definitions. Assumes nothing.
-use mathlib.Core.Path.{_≡_, refl, ap, ap₂, sym, _∙_}
+use mathlib.Core.Path.{_≡_, ap, ap₂, sym, _∙_}
 use mathlib.Core.List.{List, map, _++_}
 use Prim.Native.Nat.{ℕ, _≤_, _<_}
 use native.Mathlib.Omega.{arith}
 use lib.ListN.{length, drop}
 use lib.Seq.{take-all}
 use borrow.Author.Tests.{lt-ltb, le-ltb}
-use Rattle.refusals.specs.Refusals.{_else_, Outcome, done, refused, unless}
+use Rattle.refusals.specs.Refusals.{done, refused, unless}
 use Rattle.refusals.proofs.Laws.{refuses, refuses-first, does}
 use Rattle.places.specs.Places.{place, render, over}
 use Rattle.laying.specs.Laying.{laid}

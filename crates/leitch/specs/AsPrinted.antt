@@ -243,14 +243,17 @@ refusedWrites =
     ∷ ((reply (time 20 58 41) 637 (date 1996 4 17) 1108 3 "C", 31), 17)
     ∷ []
 
+-- What is read: its characters say what the table says, and each is one that the table lists.
+abbrev pub EveryReplyIsAsPrinted : Type 0
+EveryReplyIsAsPrinted =
+    (bytes : List ℕ) (told : Reply) → replyOf bytes ≡ done told → (bytes ≡ asPrinted told) × EachListed printed bytes
+
+-- Each that is listed is taken; and the replies above, to the letter.
 pub record TheReplyIsAsPrinted : Type 0 where
   pub numbered : map (λ line. line .number) printed ≡ countedFrom 1 31
-  -- what is read: its characters say what the table says, and each is one that the table lists
-  pub says : (bytes : List ℕ) (told : Reply) → replyOf bytes ≡ done told → bytes ≡ asPrinted told
-  pub listed : (bytes : List ℕ) (told : Reply) → replyOf bytes ≡ done told → EachListed printed bytes
-  -- and each that is listed is taken
   pub taken : allOccur printed ≡ true
   pub repliesRead : map (λ row. replyOf (row .0)) replies ≡ map (λ row. done (row .1)) replies
   pub repliesWritten : map (λ row. written (row .1) 31) replies ≡ map (λ row. done (row .0)) replies
+  pub repliesSay : map (λ row. asPrinted (row .1)) replies ≡ map (λ row. row .0) replies
   pub repliesRefused : map (λ row. replyOf (row .0)) refusedReplies ≡ map (λ row. refused (row .1)) refusedReplies
   pub writesRefused : map (λ row. written (row .0 .0) (row .0 .1)) refusedWrites ≡ map (λ row. refused (row .1)) refusedWrites

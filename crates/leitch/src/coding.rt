@@ -84,7 +84,7 @@ fn four_bits(character: u8) -> u8
 }
 
 // The reply that digits carry, right or wrong.
-pub fn reply_in(digits: [u8; SLOTS]) -> Reply
+pub(crate) fn reply_in(digits: [u8; SLOTS]) -> Reply
     ensures { λ r. ⌜ r ≡ replyIn digits ⌝ }
 {
     Reply {
@@ -99,7 +99,7 @@ pub fn reply_in(digits: [u8; SLOTS]) -> Reply
 
 // The digits that carry a reply, and 0 in the slots that its row does not use.
 #[rattlefmt::skip]
-pub fn digits_out(reply: Reply) -> [u8; SLOTS]
+pub(crate) fn digits_out(reply: Reply) -> [u8; SLOTS]
     ensures { λ r. ⌜ r ≡ digitsOut reply ⌝ }
 {
     let time = reply.time;

@@ -63,7 +63,7 @@ fn date_refusal(date: Date, weekday: u8) -> u8
 }
 
 // 5, 6, 7 or 8, the lowest that holds, or no refusal.
-pub fn fields_refusal(reply: Reply) -> u8
+pub(crate) fn fields_refusal(reply: Reply) -> u8
     ensures { λ r. ⌜ r ≡ fieldsRefusal reply ⌝ }
 {
     if !status_listed(reply.status) {
@@ -82,7 +82,7 @@ pub fn fields_refusal(reply: Reply) -> u8
 }
 
 // 17 where the day of the year is not the date's, or no refusal.
-pub fn day_refusal(reply: Reply) -> u8
+pub(crate) fn day_refusal(reply: Reply) -> u8
     ensures { λ r. ⌜ r ≡ dayRefusal reply ⌝ }
 {
     match calendar::year::day_of_year(reply.date) {
