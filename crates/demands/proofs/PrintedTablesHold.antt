@@ -6,9 +6,11 @@ use Rattle.clock.proofs.AsPrintedHolds as clock
 use Rattle.board.proofs.AsPrintedHolds as board
 use Rattle.listing.proofs.AsPrintedHolds as listing
 use Rattle.pages.proofs.AsPrintedHolds as pages
+use Rattle.leitch.proofs.AsPrintedHolds as leitch
+use Rattle.requests.proofs.AsPrintedHolds as requests
 use Rattle.demands.specs.PrintedTables.{AllIsAsPrinted}
 use Rattle.demands.proofs.BoundaryHolds.{boundary-table}
 
 pub all-is-as-printed : AllIsAsPrinted
 all-is-as-printed =
-    (layouts.as-printed, records.as-printed, calendar.month-starts-as-printed, calendar.calendar-as-printed, clock.as-printed, board.of-6036-as-printed, listing.listing-as-printed, pages.as-printed, boundary-table)
+    (layouts.as-printed, records.as-printed, calendar.month-starts-as-printed, calendar.calendar-as-printed, clock.as-printed, board.of-6036-as-printed, listing.listing-as-printed, pages.as-printed, boundary-table, calendar.days-of-the-year-as-printed, leitch.as-printed, requests.requests-as-printed)

@@ -1,13 +1,15 @@
--- The tables and examples as document 01 and the makers' manuals print them, in the document's order. Each is stated in literal rows
--- in the crate whose definitions it pins (its file is specs/AsPrinted.antt), so that a swap made in definition and code together is
--- refused there. This page names them all, to be held beside the documents.
+-- The tables and examples as documents 01 and 02 and the makers' manuals print them, in the documents' order. Each is stated in
+-- literal rows in the crate whose definitions it pins (its file is specs/AsPrinted.antt), so that a swap made in definition and code
+-- together is refused there. This page names them all, to be held beside the documents.
 use Rattle.layouts.specs.AsPrinted.{TheTablesAreAsPrinted}
 use Rattle.record.specs.AsPrinted.{RecordsAreAsPrinted}
-use Rattle.calendar.specs.AsPrinted.{TheMonthStartsAreAsPrinted, TheCalendarIsAsPrinted}
+use Rattle.calendar.specs.AsPrinted.{TheMonthStartsAreAsPrinted, TheCalendarIsAsPrinted, TheDaysOfTheYearAreAsPrinted}
 use Rattle.clock.specs.AsPrinted.{StepsAreAsPrinted}
 use Rattle.board.specs.AsPrinted.{The6036IsAsPrinted}
 use Rattle.listing.specs.AsPrinted.{TheListingIsAsPrinted}
 use Rattle.pages.specs.AsPrinted.{TheWholeListingIsAsPrinted}
+use Rattle.leitch.specs.AsPrinted.{TheReplyIsAsPrinted}
+use Rattle.requests.specs.AsPrinted.{RequestsAreAsPrinted}
 use Rattle.demands.specs.Boundary.{TheBoundaryTableHolds}
 
 abbrev pub AllIsAsPrinted : Type 0
@@ -28,3 +30,9 @@ AllIsAsPrinted =
     × TheWholeListingIsAsPrinted
     -- "Boundary table"
     × TheBoundaryTableHolds
+    -- document 02, a: the day of the year, at both ends of each month of a common and of a leap year
+    × TheDaysOfTheYearAreAsPrinted
+    -- document 02, a, and 000, 6.5: the 31 characters of a reply, each with the values listed for it
+    × TheReplyIsAsPrinted
+    -- document 02, a, and 000, 6: the request letters, and bytes that are none
+    × RequestsAreAsPrinted
