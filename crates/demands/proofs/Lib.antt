@@ -4,6 +4,7 @@ pub mod RulesHold
 pub mod Demand1Holds
 pub mod Demand1OfTheLine
 pub mod Demand1OfTheListing
+pub mod Demand1OfReplies
 pub mod Demand2Holds
 pub mod Demand3Holds
 pub mod BoundaryHolds

@@ -3,6 +3,7 @@ pub mod Numbers
 pub mod Rules
 pub mod Demand1
 pub mod Demand1OfTheListing
+pub mod Demand1OfReplies
 pub mod Demand2
 pub mod Demand3
 pub mod Programs
