@@ -6,7 +6,9 @@ pub mod Demand1OfTheLine
 pub mod Demand1OfTheListing
 pub mod Demand1OfReplies
 pub mod Demand2Holds
+pub mod Demand2OfReplies
 pub mod Demand3Holds
 pub mod BoundaryHolds
 pub mod ShutOut
+pub mod ShutOutOfReplies
 pub mod PrintedTablesHold

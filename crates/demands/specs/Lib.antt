@@ -5,8 +5,11 @@ pub mod Demand1
 pub mod Demand1OfTheListing
 pub mod Demand1OfReplies
 pub mod Demand2
+pub mod Demand2OfReplies
 pub mod Demand3
 pub mod Programs
+pub mod ProgramsOfReplies
 pub mod Wrong
+pub mod WrongOfReplies
 pub mod Boundary
 pub mod PrintedTables
