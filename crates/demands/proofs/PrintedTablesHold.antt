@@ -7,10 +7,11 @@ use Rattle.board.proofs.AsPrintedHolds as board
 use Rattle.listing.proofs.AsPrintedHolds as listing
 use Rattle.pages.proofs.AsPrintedHolds as pages
 use Rattle.leitch.proofs.AsPrintedHolds as leitch
+use Rattle.leitch.proofs.Spelled.{every-as-printed}
 use Rattle.requests.proofs.AsPrintedHolds as requests
 use Rattle.demands.specs.PrintedTables.{AllIsAsPrinted}
 use Rattle.demands.proofs.BoundaryHolds.{boundary-table}
 
 pub all-is-as-printed : AllIsAsPrinted
 all-is-as-printed =
-    (layouts.as-printed, records.as-printed, calendar.month-starts-as-printed, calendar.calendar-as-printed, clock.as-printed, board.of-6036-as-printed, listing.listing-as-printed, pages.as-printed, boundary-table, calendar.days-of-the-year-as-printed, leitch.as-printed, requests.requests-as-printed)
+    (layouts.as-printed, records.as-printed, calendar.month-starts-as-printed, calendar.calendar-as-printed, clock.as-printed, board.of-6036-as-printed, listing.listing-as-printed, pages.as-printed, boundary-table, calendar.days-of-the-year-as-printed, leitch.as-printed, every-as-printed, requests.requests-as-printed)

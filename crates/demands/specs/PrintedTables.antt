@@ -8,7 +8,7 @@ use Rattle.clock.specs.AsPrinted.{StepsAreAsPrinted}
 use Rattle.board.specs.AsPrinted.{The6036IsAsPrinted}
 use Rattle.listing.specs.AsPrinted.{TheListingIsAsPrinted}
 use Rattle.pages.specs.AsPrinted.{TheWholeListingIsAsPrinted}
-use Rattle.leitch.specs.AsPrinted.{TheReplyIsAsPrinted}
+use Rattle.leitch.specs.AsPrinted.{TheReplyIsAsPrinted, EveryReplyIsAsPrinted}
 use Rattle.requests.specs.AsPrinted.{RequestsAreAsPrinted}
 use Rattle.demands.specs.Boundary.{TheBoundaryTableHolds}
 
@@ -32,7 +32,8 @@ AllIsAsPrinted =
     × TheBoundaryTableHolds
     -- document 02, a: the day of the year, at both ends of each month of a common and of a leap year
     × TheDaysOfTheYearAreAsPrinted
-    -- document 02, a, and 000, 6.5: the 31 characters of a reply, each with the values listed for it
+    -- document 02, a, and 000, 6.5: the 31 characters of a reply, each with the values listed for it; of any reply that is read
     × TheReplyIsAsPrinted
+    × EveryReplyIsAsPrinted
     -- document 02, a, and 000, 6: the request letters, and bytes that are none
     × RequestsAreAsPrinted
