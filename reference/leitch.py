@@ -44,8 +44,8 @@ def unit(field):
     return Decimal(field, 1)
 
 
-# Character number, meaning, value range. Two slips of the manual: it ends the day tens at 32, and the request allows 33;
-# and what it calls a 100th is a hundred.
+# Character number, meaning, value range. The manual ends the day tens at 32, a slip by document 02, which allows 33; what it calls a
+# 100th is a hundred.
 PRINTED = (
     (1, tens("hour"), "30-32"),
     (2, unit("hour"), "30-39"),

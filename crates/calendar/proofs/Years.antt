@@ -96,10 +96,6 @@ pub counted : (on : Date) (n : ℕ) → dayOfYear on ≡ done n → Good on × (
 unfolding dayOfYear
 counted on n e = let told = was-done (dateRefusal on) (yearDay on) n e in (good on (told .0), told .1)
 
--- for callers who have the day of the year and no more
-pub counted-bounds : (on : Date) (n : ℕ) → dayOfYear on ≡ done n → (1 ≤ n) × (n ≤ 366)
-counted-bounds on n e = let h = counted on n e in rw (h .1) at (year-day-bounds on (h .0))
-
 -- the first day of the year taken from a day number leaves the day of the year
 pub from-first : (on : Date) (day first : ℕ) → dayNumber on ≡ done day → first ≡ monthStart (january (on .year))
     → (first ≤ day) × (day - first + 1 ≡ yearDay on)

@@ -23,8 +23,8 @@ use Rattle.requests.specs.declared.Asked.the-variants.{Time, TimeAndDate, UtcTi
 use Rattle.requests.specs.Requests.{capitalOf, smallOf, alone, delayed, requestRows, fits, delayOf, request, requestIn, requestOf}
 use Rattle.demands.specs.Numbers.{Rule, _givenWhen_, firstOf, _byFirst_}
 use Rattle.demands.specs.Rules.{placeRules, dateRules}
-use Rattle.demands.specs.Demand1OfReplies.{fieldRules, dayRules, replyRules, replyWritingRules, isHexDigit, isRequest, requestRules, inAReply, ReadingAReplyRefuses, WritingAReplyRefuses, TheRuleOfFieldsRefuses, TheRuleOfTheDayRefuses, ReadingARequestRefuses, TheDayOfTheYearRefuses, ARefusedReplyChangesNoByte}
-use Rattle.demands.proofs.Refusing.{else-nothing, first-is-lowest, first-of-both, unless-by, refuses, gives}
+use Rattle.demands.specs.Demand1OfReplies.{fieldRules, dayRules, replyRules, replyWritingRules, isHexDigit, isRequest, requestRules, inAReply, ReadingAReplyRefuses, WritingAReplyRefuses, ReadingARequestRefuses, TheDayOfTheYearRefuses, ARefusedReplyChangesNoByte}
+use Rattle.demands.proofs.Refusing.{else-nothing, first-is-lowest, first-of-both, unless-by, refuses}
 use Rattle.demands.proofs.Demand1Holds.{demand-1-scanning}
 
 -- the numbers that a reply's rules give
@@ -52,12 +52,6 @@ behind : {first later : ℕ} (rules more : List Rule) → first ≡ firstOf rule
     → (first else later) ≡ firstOf (rules ++ more)
 behind {first} {later} rules more is then =
     ap (λ k. k else later) is ∙ ap (λ k. firstOf rules else k) then ∙ sym (first-of-both rules more)
-
-pub demand-1-fields : TheRuleOfFieldsRefuses
-demand-1-fields reply = gives (5 ∷ 6 ∷ 7 ∷ 8 ∷ []) (fieldsRefusal reply) (fieldRules reply) (field-rules reply) refl
-
-pub demand-1-day : TheRuleOfTheDayRefuses
-demand-1-day reply = gives (17 ∷ []) (dayRefusal reply) (dayRules reply) (day-rules reply) refl
 
 -- reading and writing a reply
 pub demand-1-reading-a-reply : ReadingAReplyRefuses

@@ -15,11 +15,11 @@ use Rattle.calendar.specs.DayOfYear.{dayOfYear}
 use Rattle.calendar.specs.declared.date.Date.{Date}
 use Rattle.leitch.specs.declared.Reply.{Reply}
 use Rattle.leitch.specs.Row.{replyRow}
-use Rattle.leitch.specs.Rule.{statusListed, weekdayListed, weekdayAgrees, fieldsRefusal, dayAgrees, dayRefusal}
+use Rattle.leitch.specs.Rule.{statusListed, weekdayListed, weekdayAgrees, dayAgrees}
 use Rattle.leitch.specs.Reading.{carried, replyOf}
 use Rattle.leitch.specs.Writing.{written}
 use Rattle.requests.specs.Requests.{requestOf}
-use Rattle.demands.specs.Numbers.{Rule, _givenWhen_, lowest, among, _refusedBy_, _doneOr_, _noneOr_}
+use Rattle.demands.specs.Numbers.{Rule, _givenWhen_, among, _refusedBy_, _doneOr_}
 use Rattle.demands.specs.Rules.{placeRules, dateRules}
 
 -- the fields of a reply: 5 status or weekday not listed, 6 "out of range", and "a millisecond above 999 is 6", 7 "no such day in that
@@ -74,14 +74,6 @@ abbrev pub WritingAReplyRefuses : Type 0
 WritingAReplyRefuses =
     (reply : Reply) (room : ℕ)
     → (written reply room refusedBy replyWritingRules reply room) × (written reply room doneOr 5 ∷ 6 ∷ 7 ∷ 8 ∷ 13 ∷ 17 ∷ [])
-
--- the rules of a reply, asked alone: its fields 5 to 8, its day of the year 17
-abbrev pub TheRuleOfFieldsRefuses : Type 0
-TheRuleOfFieldsRefuses =
-    (reply : Reply) → (fieldsRefusal reply ≡ lowest (fieldRules reply)) × (fieldsRefusal reply noneOr 5 ∷ 6 ∷ 7 ∷ 8 ∷ [])
-
-abbrev pub TheRuleOfTheDayRefuses : Type 0
-TheRuleOfTheDayRefuses = (reply : Reply) → (dayRefusal reply ≡ lowest (dayRules reply)) × (dayRefusal reply noneOr 17 ∷ [])
 
 -- a request read: 18
 abbrev pub ReadingARequestRefuses : Type 0

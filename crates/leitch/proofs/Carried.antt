@@ -25,10 +25,11 @@ use Rattle.leitch.specs.Coding.{numberOfThree, replyIn, digitsOut}
 use Rattle.leitch.specs.Rule.{statusListed}
 use Rattle.leitch.proofs.RuleLaws.{Good, time-good, date-good, day-of-month, weekday-1-to-7}
 
--- three digits and their number
+-- a slot keeps four bits whole
 pub four-bits : (n : ℕ) → n ≤ 15 → n % 16 ≡ n
 four-bits n small = omega arith
 
+-- three digits and their number
 module _ (n : ℕ) (small : n ≤ 999) where
   three-back : 10 * (10 * (n % 1000 / 100 % 16) + n % 1000 / 10 % 10 % 16) + n % 1000 % 10 % 16 ≡ n
   three-back =
@@ -102,7 +103,7 @@ module _ (reply : Reply) (g : Good reply) (day-small : reply .«day_of_year» �
 
   shown-digits : allShown (digitsOut reply) replyRow
   unfolding replyRow
-  shown-digits = omega (arith, status-top, weekday-1-to-7 reply g, time-good reply g, date-good reply g, day-of-month)
+  shown-digits = omega (arith, status-top, weekday-1-to-7 reply g, time-good reply g, date-good reply g, day-of-month reply g)
 
   idle-digits : (slot : ℕ) → usedIn slot replyRow ≡ false → getD (digitsOut reply) slot 0 ≡ 0
   idle-digits slot unused = go (ltb slot 20) refl

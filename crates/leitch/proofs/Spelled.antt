@@ -13,7 +13,7 @@ use Rattle.leitch.specs.Row.{replyRow}
 use Rattle.leitch.specs.Rule.{statusListed}
 use Rattle.leitch.specs.Reading.{replyOf}
 use Rattle.leitch.specs.Writing.{replyBytes}
-use Rattle.leitch.specs.AsPrinted.{printed, asPrinted, among, EachListed, EveryReplyIsAsPrinted}
+use Rattle.leitch.specs.AsPrinted.{printed, asPrinted, listedIn, EachListed, EveryReplyIsAsPrinted}
 use Rattle.leitch.proofs.RuleLaws.{Good, good, time-good, date-good, day-of-month, weekday-1-to-7}
 use Rattle.leitch.proofs.Carried.{four-bits, listed-fits, _also_}
 use Rattle.leitch.proofs.BackAndForth.{days-of-a-year, Accepted, accepted}
@@ -51,10 +51,10 @@ _then_ : {a b : ℕ} {as′ bs′ : List ℕ} → a ≡ b → as′ ≡ bs′ �
 _then_ e es = ap₂ _∷_ e es
 
 -- a digit's character is one of the digits up to the largest that the table lists
-up-to : (n top : ℕ) → n ≤ top → among ((0x30, 0x30 + top) ∷ []) (0x30 + n) ≡ true
+up-to : (n top : ℕ) → n ≤ top → listedIn ((0x30, 0x30 + top) ∷ []) (0x30 + n) ≡ true
 up-to n top small = simp (le-leb 0x30 (0x30 + n) (omega arith), le-leb (0x30 + n) (0x30 + top) (omega arith))
 
-digit : (n : ℕ) → among ((0x30, 0x39) ∷ []) (0x30 + n % 10) ≡ true
+digit : (n : ℕ) → listedIn ((0x30, 0x39) ∷ []) (0x30 + n % 10) ≡ true
 digit n = up-to (n % 10) 9 (omega arith)
 
 module _ (reply : Reply) (g : Good reply) (days : reply .«day_of_year» ≤ 366) where
@@ -77,7 +77,7 @@ module _ (reply : Reply) (g : Good reply) (days : reply .«day_of_year» ≤ 366
       then code-back (reply .status) (listed-fits (reply .status) (g .status-listed))
       then refl then refl then refl
 
-  weekday-listed : among ((0x31, 0x37) ∷ []) (0x30 + reply .weekday) ≡ true
+  weekday-listed : listedIn ((0x31, 0x37) ∷ []) (0x30 + reply .weekday) ≡ true
   weekday-listed =
       simp (le-leb 0x31 (0x30 + reply .weekday) (omega (arith, weekday-1-to-7 reply g)), le-leb (0x30 + reply .weekday) 0x37 (omega (arith, weekday-1-to-7 reply g)))
 

@@ -9,7 +9,7 @@ use lib.Dec.{eqb}
 use lib.ListN.{getD}
 use Rattle.refusals.specs.Refusals.{done, refused}
 use Rattle.ascii.specs.Ascii.{ascii}
-use Rattle.ascii.specs.Control.{stx, etx, lfCr, crLf}
+use Rattle.ascii.specs.Control.{stx, etx, cr, lfCr, crLf}
 use Rattle.calendar.specs.Ranges.{inside}
 use Rattle.calendar.specs.Literals.{date, time}
 use Rattle.calendar.specs.declared.date.Date.{Date}
@@ -49,6 +49,7 @@ unit field reply = 0x30 + field reply % 10
 abbrev pub tens : (Reply → ℕ) → Reply → ℕ
 tens field reply = 0x30 + field reply / 10 % 10
 
+-- the manual's "100th"
 abbrev pub hundreds : (Reply → ℕ) → Reply → ℕ
 hundreds field reply = 0x30 + field reply / 100 % 10
 
@@ -62,12 +63,12 @@ abbrev pub always : ℕ → Reply → ℕ
 always character reply = character
 
 -- a line: "character no.", "meaning", "value (value range)"
-pub record Line : Type 0 where
+pub record TableLine : Type 0 where
   pub number : ℕ
   pub meaning : Reply → ℕ
   pub values : List (ℕ × ℕ)
 
-abbrev pub line : ℕ → (Reply → ℕ) → List (ℕ × ℕ) → Line
+abbrev pub line : ℕ → (Reply → ℕ) → List (ℕ × ℕ) → TableLine
 line number meaning values = record { number = number; meaning = meaning; values = values }
 
 infix 80 _to_
@@ -77,7 +78,7 @@ _to_ low high = (low, high)
 abbrev pub one : ℕ → List (ℕ × ℕ)
 one character = character to character ∷ []
 
-abbrev pub printed : List Line
+abbrev pub printed : List TableLine
 printed =
     line 1 (tens hour) (0x30 to 0x32 ∷ [])
     ∷ line 2 (unit hour) (0x30 to 0x39 ∷ [])
@@ -123,15 +124,15 @@ abbrev pub asPrinted : Reply → List ℕ
 asPrinted reply = map (λ line. line .meaning reply) printed
 
 -- each character is one of the values listed for it
-abbrev pub among : List (ℕ × ℕ) → ℕ → Bool
-among [] character = false
-among (range ∷ others) character = inside (range .0) character (range .1) || among others character
+abbrev pub listedIn : List (ℕ × ℕ) → ℕ → Bool
+listedIn [] character = false
+listedIn (range ∷ others) character = inside (range .0) character (range .1) || listedIn others character
 
-abbrev pub EachListed : List Line → List ℕ → Type 0
+abbrev pub EachListed : List TableLine → List ℕ → Type 0
 EachListed [] [] = Unit {0}
 EachListed [] (character ∷ characters) = ⊥
 EachListed (line ∷ lines) [] = ⊥
-EachListed (line ∷ lines) (character ∷ characters) = (among (line .values) character ≡ true) × EachListed lines characters
+EachListed (line ∷ lines) (character ∷ characters) = (listedIn (line .values) character ≡ true) × EachListed lines characters
 
 -- A reply in numbers, its status in a character.
 abbrev pub reply : Time → ℕ → Date → ℕ → ℕ → String → Reply
@@ -179,7 +180,7 @@ abbrev pub charactersFrom : List (ℕ × ℕ) → List ℕ
 charactersFrom [] = []
 charactersFrom (range ∷ others) = countedFrom (range .0) (range .1 - range .0 + 1) ++ charactersFrom others
 
-abbrev pub allOccur : List Line → Bool
+abbrev pub allOccur : List TableLine → Bool
 allOccur [] = true
 allOccur (line ∷ lines) =
     allOf (λ character. has character (map (λ row. getD (row .0) (line .number - 1) 0) replies)) (charactersFrom (line .values)) && allOccur lines
@@ -187,9 +188,10 @@ allOccur (line ∷ lines) =
 -- Characters that are refused, each with its number.
 abbrev pub refusedReplies : List (List ℕ × ℕ)
 refusedReplies =
-    -- no 31 characters: none; without LF; between STX and ETX
+    -- not 31 characters: none; without LF; with one more; between STX and ETX
     ([], 1)
-    ∷ (ascii "20:58:41.637 17/04/96 108 3 C", 1)
+    ∷ (ascii "20:58:41.637 17/04/96 108 3 C" ++ cr ∷ [], 1)
+    ∷ (ascii "20:58:41.637 17/04/96 108 3 C " ++ crLf, 1)
     ∷ (stx ∷ ascii "20:58:41.637 17/04/96 108 3 C" ++ crLf ++ etx ∷ [], 1)
     -- "colon, point and slash count under 3", and so do space, CR and LF
     ∷ (ascii "20-58:41.637 17/04/96 108 3 C" ++ crLf, 3)
@@ -204,7 +206,7 @@ refusedReplies =
     ∷ (ascii "20:58:41.637 17/04/96 108 3 C" ++ lfCr, 3)
     -- a letter where a digit belongs
     ∷ (ascii "A0:58:41.637 17/04/96 108 3 C" ++ crLf, 4)
-    -- a weekday or a status that is not listed, "never 4"
+    -- a weekday or a status that is not listed: 5 also where it is no digit
     ∷ (ascii "20:58:41.637 17/04/96 108 0 C" ++ crLf, 5)
     ∷ (ascii "20:58:41.637 17/04/96 108 8 C" ++ crLf, 5)
     ∷ (ascii "20:58:41.637 17/04/96 108 x C" ++ crLf, 5)
@@ -224,6 +226,7 @@ refusedReplies =
     ∷ (ascii "20:58:41.637 17/04/96 107 3 C" ++ crLf, 17)
     ∷ (ascii "20:58:41.637 17/04/96 000 3 C" ++ crLf, 17)
     ∷ (ascii "20:58:41.637 31/12/97 366 3 C" ++ crLf, 17)
+    ∷ (ascii "20:58:41.637 31/12/96 367 2 C" ++ crLf, 17)
     ∷ (ascii "20:58:41.637 17/04/96 999 3 C" ++ crLf, 17)
     ∷ []
 

@@ -15,7 +15,7 @@ numberOfThree digits slot = 10 * number digits slot + getD digits (slot + 2) 0 %
 abbrev pub dateIn : List ℕ → Date
 dateIn digits = record { year = fullYear (number digits 12); month = number digits 10; day = number digits 8 }
 
--- the reply that digits carry; "carry the status unexplained": its character
+-- the reply that digits carry; "carry the status .. unexplained": its character
 abbrev pub replyIn : List ℕ → Reply
 replyIn digits =
     record {
@@ -27,7 +27,8 @@ replyIn digits =
       status = codeCharacter (codeAt digits 0);
     }
 
--- the digits that carry a reply, 0 in each slot that its row does not use
+-- the digits that carry a reply, 0 in each slot that its row does not use. Of a number with more digits than places the last ones stand
+-- here, and no such reply is written: the rule refuses it first
 abbrev pub digitsOut : Reply → List ℕ
 digitsOut reply =
     codeValue (reply .status) ∷ reply .weekday

@@ -15,7 +15,7 @@ use Rattle.leitch.specs.Rule.{fieldsRefusal, dayRefusal}
 unfoldable pub carried : List ℕ → Reply
 carried bytes = replyIn (gather replyRow bytes noDigits)
 
--- 1 no 31 characters; 3 "colon, point and slash" too, 4 and 5 over all places of the row; 5 to 8 of the fields; "17 .. after 8"
+-- 1 not 31 characters; 3 "colon, point and slash" too, 4 and 5 over all places of the row; 5 to 8 of the fields; "17 .. after 8"
 unfoldable pub replyRefusal : List ℕ → ℕ
 replyRefusal bytes =
     1 when not (eqb (length bytes) 31) else rowFault replyRow bytes else fieldsRefusal (carried bytes) else dayRefusal (carried bytes)

@@ -6,23 +6,24 @@ use Rattle.layouts.specs.Layouts.{status, weekday, hh, mm, ss, dd, mo, space, C
 
 -- the fixed characters that the seven layouts do not have
 abbrev pub colon : Place
-colon = fixed 58
+colon = fixed 0x3A
 
 abbrev pub point : Place
-point = fixed 46
+point = fixed 0x2E
 
 abbrev pub slash : Place
-slash = fixed 47
+slash = fixed 0x2F
 
--- the digits that they do not have, or have in other slots; a digit's number is its slot
+-- a digit's number is its slot. Time, day and month stand in the slots that the seven layouts give them; the year has the next two, where
+-- those keep a century
 abbrev pub yy : List Place
 yy = decimal 12 ∷ decimal 13 ∷ []
 
--- "100th millisecond, tens millisecond, unit millisecond"
+-- "100th millisecond, tens millisecond, unit millisecond": the hundreds first
 abbrev pub milliseconds : List Place
 milliseconds = decimal 14 ∷ decimal 15 ∷ decimal 16 ∷ []
 
--- "100th curr. day of year, tens curr. day of year, unit curr. day of year"
+-- "100th curr. day of year, tens curr. day of year, unit curr. day of year": the same
 abbrev pub dayInYear : List Place
 dayInYear = decimal 17 ∷ decimal 18 ∷ decimal 19 ∷ []
 

@@ -1,4 +1,4 @@
-pub mod ReadLaws
-pub mod Whole
 pub mod AsPrintedHolds
+pub mod ReadLaws
 pub mod ExactlyHolds
+pub mod Whole
