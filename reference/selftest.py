@@ -542,11 +542,18 @@ def leitch_by_hand():
         same("leitch", (changed, outcome(leitch.write_answer, april._replace(**changed), bytearray(room))[1]), (changed, number))
 
 
+def every_date():
+    """Every date of the calendar, in order."""
+    for year in leitch_cases.CALENDAR_YEARS:
+        for month in range(1, 13):
+            yield from (Date(year, month, day) for day in range(1, days.days_in_month(year, month) + 1))
+
+
 def leitch_every_day(dice):
     """Every day is written and reads back; what stands in a place of them all is what the table lists there."""
     there = [set() for _ in leitch.TABLE]
-    for number in range(days.DAYS):
-        answer = leitch_cases.answer_on(dice, days.date_of(number))
+    for date in every_date():
+        answer = leitch_cases.answer_on(dice, date)
         buffer = bytearray(dice.randbytes(40))
         before = bytes(buffer)
         same("leitch days", leitch.write_answer(answer, buffer), 31)
