@@ -13,6 +13,7 @@ use Rattle.leitch.specs.Rule.{fieldsRefusal, dayRefusal}
 unfoldable pub replyBytes : Reply → List ℕ
 replyBytes reply = render replyRow (digitsOut reply)
 
--- what is written into a buffer of so many bytes: 5 to 8 of the fields, 13 "the lent buffer is shorter", 17, "the lowest is given"
+-- what is written into a buffer of so many bytes: 5 to 8 of the fields, 13 "the lent buffer is shorter", 17, "the lowest is given". So 13 is
+-- told here, in front of 17, and where the characters are laid there is room for them
 unfoldable pub written : Reply → ℕ → Outcome (List ℕ)
 written reply room = unless (fieldsRefusal reply else 13 when ltb room 31 else dayRefusal reply) (replyBytes reply)

@@ -1,12 +1,13 @@
 // What the digits of a reply mean, and the digits of a reply.
 use super::Reply;
+use super::row::ST;
 use calendar::date::Date;
 use calendar::time::Time;
 use places::SLOTS;
 ghost use mathlib.Core.Path.{_≡_};
 ghost use Prim.Native.Nat.{_+_, _*_, _%_};
 ghost use Rattle.places.specs.Places.{codeValue, codeCharacter};
-ghost use Rattle.layouts.specs.Coding.{timeIn, fullYear};
+ghost use Rattle.layouts.specs.Coding.{codeAt, timeIn, fullYear};
 ghost use Rattle.leitch.specs.Coding.{dateIn, replyIn, digitsOut};
 
 // Two decimal digits as a number. What stands in a slot has four bits.
@@ -53,34 +54,25 @@ fn date_in(digits: [u8; SLOTS]) -> Date
     }
 }
 
-// The character of four bits.
-fn character(bits: u8) -> u8
-    ensures { λ r. ⌜ r ≡ codeCharacter (bits % 16) ⌝ }
+// The character of a status: what its place shows of its four bits.
+fn status_in(digits: [u8; SLOTS]) -> u8
+    ensures { λ r. ⌜ r ≡ codeCharacter (codeAt digits 0) ⌝ }
 {
-    let low = bits % 16;
-    if low < 10 {
-        return low + b'0';
-    }
-    low + 55
+    let row = [ST];
+    let mut shown = [0u8];
+    places::render(&row, digits, &mut shown);
+    shown[0]
 }
 
-// The four bits of a character 0 to 9 or A to F, and 0 of any other.
-fn four_bits(character: u8) -> u8
+// The four bits of a status: what its place finds in its character, and 0 in a byte that is no hex digit.
+fn status_out(character: u8) -> u8
     ensures { λ r. ⌜ r ≡ codeValue character ⌝ }
 {
-    if character < b'0' {
-        return 0;
-    }
-    if character <= b'9' {
-        return character - b'0';
-    }
-    if character < b'A' {
-        return 0;
-    }
-    if character <= b'F' {
-        return character - 55;
-    }
-    0
+    let row = [ST];
+    let shown = [character];
+    let found = places::scan(&row, &shown);
+    let digits = found.digits;
+    digits[0]
 }
 
 // The reply that digits carry, right or wrong.
@@ -93,7 +85,7 @@ pub(crate) fn reply_in(digits: [u8; SLOTS]) -> Reply
         date: date_in(digits),
         day_of_year: triple(digits[17], digits[18], digits[19]),
         weekday: digits[1] % 16,
-        status: character(digits[0]),
+        status: status_in(digits),
     }
 }
 
@@ -108,7 +100,7 @@ pub(crate) fn digits_out(reply: Reply) -> [u8; SLOTS]
     let millisecond = reply.millisecond % 1000;
     let day = reply.day_of_year % 1000;
     [
-        four_bits(reply.status), reply.weekday,
+        status_out(reply.status), reply.weekday,
         time.hour / 10, time.hour % 10, time.minute / 10, time.minute % 10, time.second / 10, time.second % 10,
         date.day / 10, date.day % 10, date.month / 10, date.month % 10, (year / 10) as u8, (year % 10) as u8,
         (millisecond / 100) as u8, (millisecond / 10 % 10) as u8, (millisecond % 10) as u8,

@@ -19,7 +19,7 @@ const CR: u8 = b'\r';
 const LF: u8 = b'\n';
 
 // Places that hold a digit: its slot, counted from the first decimal or the first code place.
-const ST: u8 = FIRST_CODE;
+pub(crate) const ST: u8 = FIRST_CODE;
 
 const WD: u8 = FIRST_CODE + 1;
 

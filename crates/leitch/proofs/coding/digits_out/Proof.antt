@@ -3,8 +3,8 @@ use borrow.Author.Needs.{needs}
 use Rattle.leitch.proofs.coding.digits_out.Statement.{statement}
 use Rattle.leitch.proofs.coding.digits_out.Tie as tie
 
-four-bits-requires : tie.Need-four-bits-requires
-four-bits-requires c κs = search needs
+status-out-requires : tie.Need-status-out-requires
+status-out-requires c κs = search needs
 
 cast-t19 : tie.Need-cast-t19
 cast-t19 c = search needs
@@ -31,13 +31,13 @@ cast-t35 : tie.Need-cast-t35
 cast-t35 c = search needs
 
 returns : tie.Need-returns
-returns c = rw (c .before .before .before .before .before .before .before .before .before .before .four-bits .ensures)
+returns c = rw (c .before .before .before .before .before .before .before .before .before .before .status-out .ensures)
 
 pub digits-out-spec : {M : Type 1} → statement M
 digits-out-spec =
     tie.close
     (tie.spec
-    four-bits-requires
+    status-out-requires
     cast-t19
     cast-t21
     cast-t23

@@ -36,16 +36,13 @@ triple-requires-2 c κs = search needs
 array-read-t29 : tie.Need-array-read-t29
 array-read-t29 c = search needs
 
-array-read-character : tie.Need-array-read-character
-array-read-character c = search needs
-
-character-requires : tie.Need-character-requires
-character-requires c κs = search needs
+status-in-requires : tie.Need-status-in-requires
+status-in-requires c κs = search needs
 
 returns : tie.Need-returns
 returns c =
     rw
-    (c .character .ensures, c .before .triple2 .ensures, c .before .before .date-in .ensures, c .before .before .before .triple .ensures, c .before .before .before .before .time-in .ensures)
+    (c .status-in .ensures, c .before .triple2 .ensures, c .before .before .date-in .ensures, c .before .before .before .triple .ensures, c .before .before .before .before .time-in .ensures)
 
 pub reply-in-spec : {M : Type 1} → statement M
 reply-in-spec =
@@ -62,6 +59,5 @@ reply-in-spec =
     array-read-triple-6
     triple-requires-2
     array-read-t29
-    array-read-character
-    character-requires
+    status-in-requires
     returns)
