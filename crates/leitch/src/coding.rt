@@ -3,7 +3,11 @@ use super::Reply;
 use super::row::ST;
 use calendar::date::Date;
 use calendar::time::Time;
+use layouts::Layout;
+use layouts::coding::record_in;
 use places::SLOTS;
+use record::Record;
+use record::TimeLayout;
 ghost use mathlib.Core.Path.{_≡_};
 ghost use Prim.Native.Nat.{_+_, _*_, _%_};
 ghost use Rattle.places.specs.Places.{codeValue, codeCharacter};
@@ -34,13 +38,13 @@ fn full_year(year: u8) -> u16
     1900 + year as u16
 }
 
+// The time stands in the slots that a 6021t gives it, and is read as there.
 fn time_in(digits: [u8; SLOTS]) -> Time
     ensures { λ r. ⌜ r ≡ timeIn digits ⌝ }
 {
-    Time {
-        hour: pair(digits[2], digits[3]),
-        minute: pair(digits[4], digits[5]),
-        second: pair(digits[6], digits[7]),
+    match record_in(Layout::TimeOnly(TimeLayout::T6021), digits) {
+        Record::TimeOnly(_, time) => time,
+        Record::Dated(_, _, _, _, time) => time,
     }
 }
 

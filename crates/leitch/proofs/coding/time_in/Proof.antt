@@ -1,49 +1,24 @@
--- `leitch::coding::time_in` meets its contract.
+-- `leitch::coding::time_in` meets its contract: a 6021t carries this time.
+use mathlib.Core.Path.{sym, _∙_}
 use borrow.Author.Needs.{needs}
 use Rattle.leitch.proofs.coding.time_in.Statement.{statement}
 use Rattle.leitch.proofs.coding.time_in.Tie as tie
 
-array-read-pair : tie.Need-array-read-pair
-array-read-pair c = search needs
+record-in-requires : tie.Need-record-in-requires
+record-in-requires c κs = search needs
 
-array-read-pair-2 : tie.Need-array-read-pair-2
-array-read-pair-2 c = search needs
+enum-known-time : tie.Need-enum-known-time
+enum-known-time c = search needs
 
-pair-requires : tie.Need-pair-requires
-pair-requires c κs = search needs
-
-array-read-pair-3 : tie.Need-array-read-pair-3
-array-read-pair-3 c = search needs
-
-array-read-pair-4 : tie.Need-array-read-pair-4
-array-read-pair-4 c = search needs
-
-pair-requires-2 : tie.Need-pair-requires-2
-pair-requires-2 c κs = search needs
-
-array-read-pair-5 : tie.Need-array-read-pair-5
-array-read-pair-5 c = search needs
-
-array-read-pair-6 : tie.Need-array-read-pair-6
-array-read-pair-6 c = search needs
-
-pair-requires-3 : tie.Need-pair-requires-3
-pair-requires-3 c κs = search needs
+enum-known-time-2 : tie.Need-enum-known-time-2
+enum-known-time-2 c = search needs
 
 returns : tie.Need-returns
-returns c = rw (c .pair3 .ensures, c .before .pair2 .ensures, c .before .before .pair .ensures)
+returns c = let carried = sym (c .before .before .before .record-in .ensures) ∙ c .before .time .given .1 in cc
+
+returns-2 : tie.Need-returns-2
+returns-2 c = search needs
 
 pub time-in-spec : {M : Type 1} → statement M
 time-in-spec =
-    tie.close
-    (tie.spec
-    array-read-pair
-    array-read-pair-2
-    pair-requires
-    array-read-pair-3
-    array-read-pair-4
-    pair-requires-2
-    array-read-pair-5
-    array-read-pair-6
-    pair-requires-3
-    returns)
+    tie.close (tie.spec record-in-requires enum-known-time enum-known-time-2 returns returns-2)
