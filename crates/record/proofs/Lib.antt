@@ -1,5 +1,6 @@
+pub mod SixtyLaws
 pub mod RuleLaws
-pub mod UtcLaws
 pub mod NextLaws
+pub mod UtcLaws
 pub mod AsPrintedHolds
 pub mod Whole

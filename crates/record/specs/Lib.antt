@@ -1,7 +1,11 @@
 pub mod Season
+pub mod Moment
+pub mod Sixty
+pub mod SixtyByFields
 pub mod Rule
 pub mod Next
 pub mod Utc
+pub mod Following
 pub mod Answers
 pub mod Literals
 pub mod AsPrinted

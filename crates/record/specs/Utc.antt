@@ -1,31 +1,25 @@
--- Document 01, "Calendar, UTC and the station clock": the count of a record's seconds, and its UTC seconds.
+-- Document 01, "Calendar, UTC and the station clock", and document 02, b: the count of a record's seconds, and its UTC seconds.
 use mathlib.Core.Bool.{Bool, cond}
-use Prim.Native.Nat.{ℕ, _+_, _*_}
 use Rattle.refusals.specs.Refusals.{_else_, Outcome, done, refused, unless, after}
-use Rattle.calendar.specs.Calendar.{dayOf}
-use Rattle.calendar.specs.TimeOfDay.{secondsOf}
 use Rattle.record.specs.declared.Record.{Record}
 use Rattle.record.specs.declared.Record.the-variants.{Dated, TimeOnly}
 use Rattle.record.specs.declared.season.UtcSeconds.{UtcSeconds}
 use Rattle.record.specs.declared.season.Count.{Count}
-use Rattle.record.specs.declared.season.Count.the-variants.{Local, Utc}
-use Rattle.record.specs.Rule.{refusalOf}
-use Rattle.record.specs.Season.{toUtc}
+use Rattle.record.specs.Moment.{momentOf, inUtc}
+use Rattle.record.specs.Rule.{is60, refusalOf}
+use Rattle.record.specs.Next.{nextSecondOf}
 
--- "a count of local seconds and a count of UTC seconds are kept apart throughout": which of the two, the record's mark says
-abbrev pub asMarked : Bool → ℕ → Count
-asMarked utc seconds = cond utc (Utc (record { 0 = seconds })) (Local (record { 0 = seconds }))
+-- the record whose number a record has: "a second 60 has the number of the second that follows it, 12 if there is none", any other its own
+unfoldable pub numberedAs : Record → Outcome Record
+numberedAs rec = cond (is60 rec) (nextSecondOf rec) (unless (refusalOf rec) rec)
 
--- "86,400 times the day number plus the second of the day"; 14 where the layout carries no date
+-- the seconds of a record's date and time; 14 where the layout carries no date
+abbrev pub ownSeconds : Record → Outcome Count
+ownSeconds (Dated layout status weekday date time) = momentOf (status .utc) date time
+ownSeconds (TimeOnly layout time) = refused 14
+
 abbrev pub countOf : Record → Outcome Count
-countOf (Dated layout status weekday date time) =
-    unless (refusalOf (Dated layout status weekday date time)) (asMarked (status .utc) (86400 * dayOf date + secondsOf time))
-countOf (TimeOnly layout time) = refused (refusalOf (TimeOnly layout time) else 14)
-
--- only the season shift turns local seconds into UTC seconds; "a record marked UTC is not shifted"
-abbrev pub inUtc : Bool → Count → Outcome UtcSeconds
-inUtc daylight (Local local) = toUtc local daylight
-inUtc daylight (Utc utc) = done utc
+countOf rec = after (numberedAs rec) ownSeconds
 
 -- 5 to 8, then 12 and 14
 abbrev pub utcSeconds : Record → Outcome UtcSeconds

@@ -4,6 +4,8 @@ use super::DatedLayout;
 use super::Reception;
 use super::Record;
 use super::Status;
+use super::sixty::behind_59;
+use super::sixty::is_taken;
 use calendar::date::Date;
 use calendar::date::DayAnswer;
 use calendar::time::SecondAnswer;
@@ -13,8 +15,8 @@ use refusals::OUT_OF_RANGE;
 use refusals::STATUS_OR_WEEKDAY;
 use refusals::WEEKDAY_DISAGREES;
 ghost use mathlib.Core.Path.{_≡_};
-ghost use Rattle.calendar.specs.TimeOfDay.{timeRefusal};
-ghost use Rattle.record.specs.Rule.{crystalOrRadio, plainUtc, tableCanSay, tableOf6021, statusAllowed, weekdayAllowed, datedRefusal, refusalOf};
+ghost use Rattle.calendar.specs.TimeOfDay.{timeInRange};
+ghost use Rattle.record.specs.Rule.{crystalOrRadio, plainUtc, tableCanSay, tableOf6021, statusAllowed, weekdayAllowed, timeAllowed, datedRefusal, timeAloneRefusal, refusalOf};
 
 fn is_crystal_or_radio(reception: Reception) -> bool
     ensures { λ r. ⌜ r ≡ crystalOrRadio reception ⌝ }
@@ -81,6 +83,25 @@ fn weekday_allowed(weekday: u8) -> bool
     weekday <= 7
 }
 
+fn is_in_range(time: Time) -> bool
+    ensures { λ r. ⌜ r ≡ timeInRange time ⌝ }
+{
+    match calendar::time::second_of_day(time) {
+        SecondAnswer::Second(_) => true,
+        SecondAnswer::Refused(_) => false,
+    }
+}
+
+// A second 60 is asked about last, as hardly any record has one.
+fn time_allowed(status: Status, date: Date, time: Time) -> bool
+    ensures { λ r. ⌜ r ≡ timeAllowed status date time ⌝ }
+{
+    if is_in_range(time) {
+        return true;
+    }
+    is_taken(status, date, time)
+}
+
 fn dated_refusal(layout: DatedLayout, status: Status, weekday: u8, date: Date, time: Time) -> u8
     ensures { λ r. ⌜ r ≡ datedRefusal layout status weekday date time ⌝ }
 {
@@ -90,7 +111,7 @@ fn dated_refusal(layout: DatedLayout, status: Status, weekday: u8, date: Date, t
     if !weekday_allowed(weekday) {
         return STATUS_OR_WEEKDAY;
     }
-    if time_refusal(time) != NONE {
+    if !time_allowed(status, date, time) {
         return OUT_OF_RANGE;
     }
     match calendar::date::day_number(date) {
@@ -104,13 +125,16 @@ fn dated_refusal(layout: DatedLayout, status: Status, weekday: u8, date: Date, t
     }
 }
 
-fn time_refusal(time: Time) -> u8
-    ensures { λ r. ⌜ r ≡ timeRefusal time ⌝ }
+fn time_alone_refusal(time: Time) -> u8
+    ensures { λ r. ⌜ r ≡ timeAloneRefusal time ⌝ }
 {
-    match calendar::time::second_of_day(time) {
-        SecondAnswer::Second(_) => NONE,
-        SecondAnswer::Refused(number) => number,
+    if is_in_range(time) {
+        return NONE;
     }
+    if behind_59(time) {
+        return NONE;
+    }
+    OUT_OF_RANGE
 }
 
 // What the rule says of a record: 5, 6, 7, 8, or no refusal.
@@ -121,6 +145,6 @@ pub fn refusal(rec: Record) -> u8
         Record::Dated(layout, status, weekday, date, time) => {
             dated_refusal(layout, status, weekday, date, time)
         }
-        Record::TimeOnly(_, time) => time_refusal(time),
+        Record::TimeOnly(_, time) => time_alone_refusal(time),
     }
 }

@@ -1,18 +1,24 @@
 // A record's count of seconds, local or UTC as the record is marked, and its UTC seconds.
 use super::Record;
+use super::RecordAnswer;
+use super::next::next_second;
 use super::rule::refusal;
 use super::season::Count;
 use super::season::LocalSeconds;
 use super::season::UtcAnswer;
 use super::season::UtcSeconds;
 use super::season::to_utc;
+use calendar::date::Date;
 use calendar::date::DayAnswer;
 use calendar::time::SecondAnswer;
+use calendar::time::Time;
 use refusals::NO_DATE;
 use refusals::NONE;
 ghost use mathlib.Core.Path.{_≡_};
-ghost use Rattle.record.specs.Utc.{asMarked, countOf, inUtc, utcSeconds};
-ghost use Rattle.record.specs.Answers.{countAnswer, utcAnswer};
+ghost use Rattle.record.specs.Moment.{asMarked, inUtc, momentOf};
+ghost use Rattle.record.specs.Rule.{is60};
+ghost use Rattle.record.specs.Utc.{numberedAs, ownSeconds, countOf, utcSeconds};
+ghost use Rattle.record.specs.Answers.{recordAnswer, countAnswer, utcAnswer};
 
 pub enum CountAnswer {
     Counted(Count),
@@ -28,25 +34,61 @@ fn as_marked(utc: bool, seconds: u32) -> Count
     Count::Local(LocalSeconds(seconds))
 }
 
-// A dated record's seconds since 1 January 1980, 00:00, in its own time. 14 where it carries no date.
+// The seconds of a date and a time of day since 1 January 1980, 00:00; 6 and 7 where the calendar or the day has no such.
+fn moment(utc: bool, date: Date, time: Time) -> CountAnswer
+    ensures { λ r. ⌜ countAnswer r ≡ momentOf utc date time ⌝ }
+{
+    match calendar::date::day_number(date) {
+        DayAnswer::Refused(number) => CountAnswer::Refused(number),
+        DayAnswer::Day(day) => match calendar::time::second_of_day(time) {
+            SecondAnswer::Refused(number) => CountAnswer::Refused(number),
+            SecondAnswer::Second(second) => {
+                CountAnswer::Counted(as_marked(utc, 86400 * day + second))
+            }
+        },
+    }
+}
+
+fn own_seconds(rec: Record) -> CountAnswer
+    ensures { λ r. ⌜ countAnswer r ≡ ownSeconds rec ⌝ }
+{
+    match rec {
+        Record::TimeOnly(_, _) => CountAnswer::Refused(NO_DATE),
+        Record::Dated(_, status, _, date, time) => moment(status.utc, date, time),
+    }
+}
+
+fn is_60(rec: Record) -> bool
+    ensures { λ r. ⌜ r ≡ is60 rec ⌝ }
+{
+    match rec {
+        Record::Dated(_, _, _, _, time) => time.second == 60,
+        Record::TimeOnly(_, time) => time.second == 60,
+    }
+}
+
+// The record whose number a record has: a second 60 has that of the second that follows it, any other its own.
+fn numbered_as(rec: Record) -> RecordAnswer
+    ensures { λ r. ⌜ recordAnswer r ≡ numberedAs rec ⌝ }
+{
+    if is_60(rec) {
+        return next_second(rec);
+    }
+    let refused = refusal(rec);
+    if refused != NONE {
+        return RecordAnswer::Refused(refused);
+    }
+    RecordAnswer::Good(rec)
+}
+
+// A dated record's seconds since 1 January 1980, 00:00, in its own time. 12 for a second 60 with none behind it, 14 where it carries
+// no date.
 pub fn count(rec: Record) -> CountAnswer
     ensures { λ r. ⌜ countAnswer r ≡ countOf rec ⌝ }
 {
-    let refused = refusal(rec);
-    if refused != NONE {
-        return CountAnswer::Refused(refused);
-    }
-    match rec {
-        Record::TimeOnly(_, _) => CountAnswer::Refused(NO_DATE),
-        Record::Dated(_, status, _, date, time) => match calendar::date::day_number(date) {
-            DayAnswer::Refused(number) => CountAnswer::Refused(number),
-            DayAnswer::Day(day) => match calendar::time::second_of_day(time) {
-                SecondAnswer::Refused(number) => CountAnswer::Refused(number),
-                SecondAnswer::Second(second) => {
-                    CountAnswer::Counted(as_marked(status.utc, 86400 * day + second))
-                }
-            },
-        },
+    match numbered_as(rec) {
+        RecordAnswer::Refused(number) => CountAnswer::Refused(number),
+        RecordAnswer::Good(own) => own_seconds(own),
     }
 }
 
@@ -60,7 +102,7 @@ fn in_utc(daylight: bool, counted: Count) -> UtcAnswer
     }
 }
 
-// A dated record's seconds in UTC. 12 before the calendar, 14 where it carries no date.
+// A dated record's seconds in UTC. 12 before the calendar and behind it, 14 where it carries no date.
 pub fn utc_seconds(rec: Record) -> UtcAnswer
     ensures { λ r. ⌜ utcAnswer r ≡ utcSeconds rec ⌝ }
 {

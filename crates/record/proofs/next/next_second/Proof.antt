@@ -4,8 +4,7 @@ use mathlib.Core.Bool.{true, false}
 use Rattle.refusals.proofs.Laws.{refuses-first}
 use Rattle.calendar.specs.Answers.{dateAnswer, nextSecondAnswer}
 use Rattle.record.specs.Next.{nextSecondOf}
-use Rattle.calendar.proofs.Times.{range-not-refused}
-use Rattle.record.proofs.RuleLaws.{good}
+use Rattle.record.proofs.RuleLaws.{good, good-counted, alone-counted}
 use Rattle.record.proofs.NextLaws.{same-day, next-day, calendar-ends, time-goes-on, goes-on}
 use borrow.Author.Needs.{needs}
 use Rattle.record.proofs.next.next_second.Statement.{statement}
@@ -21,8 +20,8 @@ returns c = refuses-first _ _ (c .before .refusal .ensures) (c .if1 .taken)
 enum-known-rec : tie.Need-enum-known-rec
 enum-known-rec c = search needs
 
-next-second-requires : tie.Need-next-second-requires
-next-second-requires c κs = search needs
+next-time-requires : tie.Need-next-time-requires
+next-time-requires c κs = search needs
 
 enum-known-next : tie.Need-enum-known-next
 enum-known-next c = search needs
@@ -36,8 +35,8 @@ enum-known-number c = search needs
 enum-known-rec-2 : tie.Need-enum-known-rec-2
 enum-known-rec-2 c = search needs
 
-next-second-requires-2 : tie.Need-next-second-requires-2
-next-second-requires-2 c κs = search needs
+next-time-requires-2 : tie.Need-next-time-requires-2
+next-time-requires-2 c κs = search needs
 
 enum-known-next-3 : tie.Need-enum-known-next-3
 enum-known-next-3 c = search needs
@@ -63,37 +62,37 @@ enum-known-number-3 c = search needs
 returns-2 : tie.Need-returns-2
 returns-2 c =
     let none = rw (c .before .before .before .before .before .rec .given .1) at (sym (c .before .before .before .before .before .before .before .before .refusal .ensures) ∙ c .before .before .before .before .before .before .before .if1 .left) in
-    time-goes-on _ _ _ false none (sym (c .before .before .before .next-second .ensures) ∙ ap nextSecondAnswer (c .before .next .given .1))
+    time-goes-on _ _ _ false none (sym (c .before .before .before .next-time .ensures) ∙ ap nextSecondAnswer (c .before .next .given .1))
     ∙ ap nextSecondOf (sym (c .before .before .before .before .before .rec .given .1))
 
 returns-3 : tie.Need-returns-3
 returns-3 c =
     let none = rw (c .before .before .before .before .before .rec .given .1) at (sym (c .before .before .before .before .before .before .before .before .refusal .ensures) ∙ c .before .before .before .before .before .before .before .if1 .left) in
-    time-goes-on _ _ _ true none (sym (c .before .before .before .next-second .ensures) ∙ ap nextSecondAnswer (c .before .next2 .given .1))
+    time-goes-on _ _ _ true none (sym (c .before .before .before .next-time .ensures) ∙ ap nextSecondAnswer (c .before .next2 .given .1))
     ∙ ap nextSecondOf (sym (c .before .before .before .before .before .rec .given .1))
 
 returns-4 : tie.Need-returns-4
 returns-4 c =
     let none = rw (c .before .before .before .before .before .rec .given .1) at (sym (c .before .before .before .before .before .before .before .before .refusal .ensures) ∙ c .before .before .before .before .before .before .before .if1 .left) in
-    absurd (goes-on _ _ none (sym (c .before .before .before .next-second .ensures) ∙ ap nextSecondAnswer (c .before .number .given .1)))
+    absurd (goes-on _ _ (alone-counted _ none) (sym (c .before .before .before .next-time .ensures) ∙ ap nextSecondAnswer (c .before .number .given .1)))
 
 returns-5 : tie.Need-returns-5
 returns-5 c =
     let none = rw (c .before .before .before .before .before .rec2 .given .1) at (sym (c .before .before .before .before .before .before .before .before .refusal .ensures) ∙ c .before .before .before .before .before .before .before .if1 .left) in
-    same-day _ _ _ _ _ none _ (sym (c .before .before .before .next-second2 .ensures) ∙ ap nextSecondAnswer (c .before .next3 .given .1))
+    same-day _ _ _ _ _ none _ (sym (c .before .before .before .next-time2 .ensures) ∙ ap nextSecondAnswer (c .before .next3 .given .1))
     ∙ ap nextSecondOf (sym (c .before .before .before .before .before .rec2 .given .1))
 
 returns-6 : tie.Need-returns-6
 returns-6 c =
     let none = rw (c .before .before .before .before .before .before .before .before .before .rec2 .given .1) at (sym (c .before .before .before .before .before .before .before .before .before .before .before .before .refusal .ensures) ∙ c .before .before .before .before .before .before .before .before .before .before .before .if1 .left) in
-    let time = sym (c .before .before .before .before .before .before .before .next-second2 .ensures) ∙ ap nextSecondAnswer (c .before .before .before .before .before .next4 .given .1) in
+    let time = sym (c .before .before .before .before .before .before .before .next-time2 .ensures) ∙ ap nextSecondAnswer (c .before .before .before .before .before .next4 .given .1) in
     next-day _ _ _ _ _ none _ _ time (sym (c .before .before .before .next-day .ensures) ∙ ap dateAnswer (c .before .day .given .1))
     ∙ ap nextSecondOf (sym (c .before .before .before .before .before .before .before .before .before .rec2 .given .1))
 
 returns-7 : tie.Need-returns-7
 returns-7 c =
     let none = rw (c .before .before .before .before .before .before .before .before .before .rec2 .given .1) at (sym (c .before .before .before .before .before .before .before .before .before .before .before .before .refusal .ensures) ∙ c .before .before .before .before .before .before .before .before .before .before .before .if1 .left) in
-    let time = sym (c .before .before .before .before .before .before .before .next-second2 .ensures) ∙ ap nextSecondAnswer (c .before .before .before .before .before .next4 .given .1) in
+    let time = sym (c .before .before .before .before .before .before .before .next-time2 .ensures) ∙ ap nextSecondAnswer (c .before .before .before .before .before .next4 .given .1) in
     calendar-ends _ _ _ _ _ none _ _ time (sym (c .before .before .before .next-day .ensures) ∙ ap dateAnswer (c .before .number2 .given .1))
     ∙ ap nextSecondOf (sym (c .before .before .before .before .before .before .before .before .before .rec2 .given .1))
 
@@ -101,7 +100,7 @@ returns-8 : tie.Need-returns-8
 returns-8 c =
     let none = rw (c .before .before .before .before .before .rec2 .given .1) at (sym (c .before .before .before .before .before .before .before .before .refusal .ensures) ∙ c .before .before .before .before .before .before .before .if1 .left) in
     absurd
-    (goes-on _ _ (range-not-refused _ (good _ _ _ _ _ none .time-in-range)) (sym (c .before .before .before .next-second2 .ensures) ∙ ap nextSecondAnswer (c .before .number3 .given .1)))
+    (goes-on _ _ (good-counted _ _ _ _ _ (good _ _ _ _ _ none)) (sym (c .before .before .before .next-time2 .ensures) ∙ ap nextSecondAnswer (c .before .number3 .given .1)))
 
 pub next-second-spec : {M : Type 1} → statement M
 next-second-spec =
@@ -110,12 +109,12 @@ next-second-spec =
     refusal-requires
     returns
     enum-known-rec
-    next-second-requires
+    next-time-requires
     enum-known-next
     enum-known-next-2
     enum-known-number
     enum-known-rec-2
-    next-second-requires-2
+    next-time-requires-2
     enum-known-next-3
     enum-known-next-4
     next-day-requires

@@ -5,7 +5,6 @@ use Rattle.refusals.specs.Refusals.{_else_}
 use Rattle.refusals.proofs.Laws.{was-done, was-refused, refused-some, else-some}
 use Rattle.calendar.specs.Answers.{dayAnswer}
 use Rattle.calendar.specs.Calendar.{dayNumber, dayOf, dateRefusal, weekdayOf}
-use Rattle.calendar.proofs.Times.{out-of-range, range}
 use Rattle.record.specs.Rule.{datedRefusal, weekdayAgrees}
 use Rattle.record.proofs.RuleLaws.{date-decides}
 use borrow.Author.Needs.{needs}
@@ -28,13 +27,13 @@ returns-2 c =
     simp
     (sym (c .before .before .before .status-allowed .ensures) ∙ not-false _ (c .before .before .if1 .left), sym (c .before .weekday-allowed .ensures) ∙ not-true _ (c .if2 .taken))
 
-time-refusal-requires : tie.Need-time-refusal-requires
-time-refusal-requires c κs = search needs
+time-allowed-requires : tie.Need-time-allowed-requires
+time-allowed-requires c κs = search needs
 
 returns-3 : tie.Need-returns-3
 unfolding datedRefusal
 returns-3 c =
-    let late = out-of-range (c .before .before .before .before .before .before .args .time) (λ none. c .if3 .taken (c .before .time-refusal .ensures ∙ none)) in
+    let late = sym (c .before .time-allowed .ensures) ∙ not-true _ (c .if3 .taken) in
     simp
     (sym (c .before .before .before .before .before .status-allowed .ensures) ∙ not-false _ (c .before .before .before .before .if1 .left), sym (c .before .before .before .weekday-allowed .ensures) ∙ not-false _ (c .before .before .if2 .left), late)
 
@@ -55,7 +54,7 @@ unfolding dayNumber weekdayAgrees
 returns-4 c =
     let status = sym (c .before .before .before .before .before .before .before .before .before .before .before .status-allowed .ensures) ∙ not-false _ (c .before .before .before .before .before .before .before .before .before .before .if1 .left) in
     let weekday = sym (c .before .before .before .before .before .before .before .before .before .weekday-allowed .ensures) ∙ not-false _ (c .before .before .before .before .before .before .before .before .if2 .left) in
-    let time = range _ (sym (c .before .before .before .before .before .before .before .time-refusal .ensures) ∙ c .before .before .before .before .before .before .if3 .left) in
+    let time = sym (c .before .before .before .before .before .before .before .time-allowed .ensures) ∙ not-false _ (c .before .before .before .before .before .before .if3 .left) in
     let told = was-done _ _ _ (sym (c .before .before .before .before .before .day-number .ensures) ∙ ap dayAnswer (c .before .before .before .day .given .1)) in
     let wrong = ne-eqb _ _ (λ same. c .if4 .taken (c .before .weekday .ensures ∙ ap weekdayOf (sym (told .1)) ∙ same)) in
     rw (date-decides _ _ _ (c .before .before .before .before .before .before .before .before .before .before .before .before .args .date) _ status weekday time, told .0, wrong)
@@ -65,7 +64,7 @@ unfolding dayNumber
 returns-5 c =
     let status = sym (c .before .before .before .before .before .before .before .before .before .status-allowed .ensures) ∙ not-false _ (c .before .before .before .before .before .before .before .before .if1 .left) in
     let weekday = sym (c .before .before .before .before .before .before .before .weekday-allowed .ensures) ∙ not-false _ (c .before .before .before .before .before .before .if2 .left) in
-    let time = range _ (sym (c .before .before .before .before .before .time-refusal .ensures) ∙ c .before .before .before .before .if3 .left) in
+    let time = sym (c .before .before .before .before .before .time-allowed .ensures) ∙ not-false _ (c .before .before .before .before .if3 .left) in
     let told = sym (c .before .before .before .day-number .ensures) ∙ ap dayAnswer (c .before .number .given .1) in
     let args = c .before .before .before .before .before .before .before .before .before .before .args in
     let number = was-refused (dateRefusal (args .date)) _ (dayOf (args .date)) told in
@@ -77,7 +76,7 @@ unfolding dayNumber weekdayAgrees
 returns-6 c =
     let status = sym (c .before .before .before .before .before .before .before .before .before .before .before .status-allowed .ensures) ∙ not-false _ (c .before .before .before .before .before .before .before .before .before .before .if1 .left) in
     let weekday = sym (c .before .before .before .before .before .before .before .before .before .weekday-allowed .ensures) ∙ not-false _ (c .before .before .before .before .before .before .before .before .if2 .left) in
-    let time = range _ (sym (c .before .before .before .before .before .before .before .time-refusal .ensures) ∙ c .before .before .before .before .before .before .if3 .left) in
+    let time = sym (c .before .before .before .before .before .before .before .time-allowed .ensures) ∙ not-false _ (c .before .before .before .before .before .before .if3 .left) in
     let told = was-done _ _ _ (sym (c .before .before .before .before .before .day-number .ensures) ∙ ap dayAnswer (c .before .before .before .day .given .1)) in
     let right = eq-eqb _ _ (ap weekdayOf (told .1) ∙ sym (c .before .weekday .ensures) ∙ c .if4 .left) in
     rw (date-decides _ _ _ (c .before .before .before .before .before .before .before .before .before .before .before .before .args .date) _ status weekday time, told .0, right)
@@ -90,7 +89,7 @@ dated-refusal-spec =
     returns
     weekday-allowed-requires
     returns-2
-    time-refusal-requires
+    time-allowed-requires
     returns-3
     day-number-requires
     enum-known-number

@@ -12,14 +12,14 @@ dated-refusal-requires c κs = search needs
 enum-known-rec-2 : tie.Need-enum-known-rec-2
 enum-known-rec-2 c = search needs
 
-time-refusal-requires : tie.Need-time-refusal-requires
-time-refusal-requires c κs = search needs
+time-alone-refusal-requires : tie.Need-time-alone-refusal-requires
+time-alone-refusal-requires c κs = search needs
 
 returns : tie.Need-returns
 returns c = rw (c .before .before .rec .given .1) (c .dated-refusal .ensures)
 
 returns-2 : tie.Need-returns-2
-returns-2 c = rw (c .before .before .rec2 .given .1) (c .time-refusal .ensures)
+returns-2 c = rw (c .before .before .rec2 .given .1) (c .time-alone-refusal .ensures)
 
 pub refusal-spec : {M : Type 1} → statement M
 refusal-spec =
@@ -28,6 +28,6 @@ refusal-spec =
     enum-known-rec
     dated-refusal-requires
     enum-known-rec-2
-    time-refusal-requires
+    time-alone-refusal-requires
     returns
     returns-2)

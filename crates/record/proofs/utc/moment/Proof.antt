@@ -1,0 +1,66 @@
+-- `record::utc::moment` meets its contract.
+use mathlib.Core.Path.{sym, ap, ap₂, _∙_}
+use native.Mathlib.Omega.{arith}
+use Rattle.refusals.specs.Refusals.{done, after}
+use Rattle.calendar.specs.Answers.{dayAnswer, secondAnswer}
+use Rattle.calendar.proofs.Laws.{day-number-bound, second-bound}
+use Rattle.record.specs.Moment.{asMarked, momentOf}
+use borrow.Author.Needs.{needs}
+use Rattle.record.proofs.utc.moment.Statement.{statement}
+use Rattle.record.proofs.utc.moment.Tie as tie
+
+day-number-requires : tie.Need-day-number-requires
+day-number-requires c κs = search needs
+
+enum-known-number : tie.Need-enum-known-number
+enum-known-number c = search needs
+
+enum-known-day : tie.Need-enum-known-day
+enum-known-day c = search needs
+
+second-of-day-requires : tie.Need-second-of-day-requires
+second-of-day-requires c κs = search needs
+
+enum-known-number-2 : tie.Need-enum-known-number-2
+enum-known-number-2 c = search needs
+
+enum-known-second : tie.Need-enum-known-second
+enum-known-second c = search needs
+
+mul-as-marked : tie.Need-mul-as-marked
+mul-as-marked c = omega (arith, day-number-bound _ _ (sym (c .before .before .before .before .before .before .before .day-number .ensures) ∙ ap dayAnswer (c .before .before .before .before .before .day .given .1)))
+
+add-as-marked : tie.Need-add-as-marked
+add-as-marked c = omega (arith, day-number-bound _ _ (sym (c .before .before .before .before .before .before .before .day-number .ensures) ∙ ap dayAnswer (c .before .before .before .before .before .day .given .1)), second-bound _ _ (sym (c .before .before .before .second-of-day .ensures) ∙ ap secondAnswer (c .before .second .given .1)))
+
+as-marked-requires : tie.Need-as-marked-requires
+as-marked-requires c κs = search needs
+
+returns : tie.Need-returns
+unfolding momentOf
+returns c = rw (sym (c .before .before .before .day-number .ensures) ∙ ap dayAnswer (c .before .number .given .1))
+
+returns-2 : tie.Need-returns-2
+unfolding momentOf
+returns-2 c = rw (sym (c .before .before .before .before .before .before .before .day-number .ensures) ∙ ap dayAnswer (c .before .before .before .before .before .day .given .1), sym (c .before .before .before .second-of-day .ensures) ∙ ap secondAnswer (c .before .number2 .given .1))
+
+returns-3 : tie.Need-returns-3
+unfolding momentOf
+returns-3 c = rw (sym (c .before .before .before .before .before .before .before .before .day-number .ensures) ∙ ap dayAnswer (c .before .before .before .before .before .before .day .given .1), sym (c .before .before .before .before .second-of-day .ensures) ∙ ap secondAnswer (c .before .before .second .given .1)) (ap done (c .as-marked .ensures))
+
+pub moment-spec : {M : Type 1} → statement M
+moment-spec =
+    tie.close
+    (tie.spec
+    day-number-requires
+    enum-known-number
+    enum-known-day
+    second-of-day-requires
+    enum-known-number-2
+    enum-known-second
+    mul-as-marked
+    add-as-marked
+    as-marked-requires
+    returns
+    returns-2
+    returns-3)

@@ -1,0 +1,46 @@
+-- Document 02, b, "Second 60": what follows one second and another, for every record.
+use mathlib.Core.Bool.{true, false}
+use mathlib.Core.Path.{_≡_}
+use Prim.Native.Nat.{ℕ, _≤_}
+use Rattle.refusals.specs.Refusals.{done, refused}
+use Rattle.calendar.specs.Literals.{date, time}
+use Rattle.record.specs.declared.DatedLayout.{DatedLayout}
+use Rattle.record.specs.declared.Status.{Status}
+use Rattle.record.specs.declared.Record.{Record}
+use Rattle.record.specs.declared.Record.the-variants.{Dated}
+use Rattle.record.specs.declared.season.UtcSeconds.{UtcSeconds}
+use Rattle.record.specs.declared.season.Count.{Count}
+use Rattle.record.specs.Season.{secondsLater, secondsIn}
+use Rattle.record.specs.Rule.{refusalOf, is60}
+use Rattle.record.specs.Next.{nextSecondOf}
+use Rattle.record.specs.Utc.{countOf, utcSeconds}
+
+-- "neither makes a 60 by itself": stepping and second advance go by the next second
+abbrev pub NothingMakesASixty : Type 0
+NothingMakesASixty = (rec next : Record) → nextSecondOf rec ≡ done next → is60 next ≡ false
+
+-- the next second is one later, but that of a 60, whose number its follower shares
+abbrev pub TheNextSecondIsOneLater : Type 0
+TheNextSecondIsOneLater =
+    (rec next : Record) (count : Count) → is60 rec ≡ false → nextSecondOf rec ≡ done next → countOf rec ≡ done count
+    → countOf next ≡ done (secondsLater 1 count)
+
+abbrev pub ASixtySharesItsFollowersNumber : Type 0
+ASixtySharesItsFollowersNumber =
+    (rec next : Record) → is60 rec ≡ true → nextSecondOf rec ≡ done next → (countOf rec ≡ countOf next) × (utcSeconds rec ≡ utcSeconds next)
+
+-- "12 if there is none": the one 60 that is read and written and has no follower is marked UTC, 31.12.2079 23:59:60, a Sunday
+abbrev pub OneSixtyHasNoFollower : Type 0
+OneSixtyHasNoFollower =
+    (rec : Record) → refusalOf rec ≡ 0 → is60 rec ≡ true → nextSecondOf rec ≡ refused 12
+    → (layout : DatedLayout) × (status : Status) × (rec ≡ Dated layout status 7 (date 2079 12 31) (time 23 59 60)) × (status .utc ≡ true)
+
+abbrev pub WithoutAFollowerItHasNoNumber : Type 0
+WithoutAFollowerItHasNoNumber =
+    (rec : Record) → is60 rec ≡ true → nextSecondOf rec ≡ refused 12 → (countOf rec ≡ refused 12) × (utcSeconds rec ≡ refused 12)
+
+-- nothing behind the calendar's last second is handed out
+abbrev pub NoCountIsBehindTheCalendar : Type 0
+NoCountIsBehindTheCalendar =
+    ((rec : Record) (count : Count) → countOf rec ≡ done count → secondsIn count ≤ 3155759999)
+    × ((rec : Record) (utc : UtcSeconds) → utcSeconds rec ≡ done utc → utc .0 ≤ 3155759999)
