@@ -1,6 +1,7 @@
+pub mod AsPrintedHolds
 pub mod SixtyLaws
 pub mod RuleLaws
 pub mod NextLaws
 pub mod UtcLaws
-pub mod AsPrintedHolds
+pub mod FollowingLaws
 pub mod Whole

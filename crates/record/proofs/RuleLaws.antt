@@ -120,3 +120,13 @@ range-no-sixty time e = go (isSixty time) refl
     go : (sixty : Bool) → isSixty time ≡ sixty → sixty ≡ false
     go true sixty = absurd (no-sixty time e sixty)
     go false sixty = refl
+
+-- a second 60 that is allowed is one that is taken
+pub sixty-taken : (status : Status) (date : Date) (time : Time) → timeAllowed status date time ≡ true → isSixty time ≡ true
+    → takesSixty status date time ≡ true
+unfolding timeAllowed
+sixty-taken status date time allowed sixty = go (timeInRange time) refl allowed
+  where
+    go : (range : Bool) → timeInRange time ≡ range → (range || takesSixty status date time) ≡ true → takesSixty status date time ≡ true
+    go true range allowed = absurd (no-sixty time range sixty)
+    go false range allowed = allowed

@@ -79,7 +79,7 @@ unfolding dayOf monthStart
 new-year-1980 date d y m = rw (d, y, m)
 
 -- 31.12.2079 is day 36524
-last-number : (date : Date) → isLastDay date ≡ true → dayOf date ≡ 36524
+pub last-number : (date : Date) → isLastDay date ≡ true → dayOf date ≡ 36524
 unfolding isLastDay dayOf monthStart monthLength isLeap
 last-number date e =
     let day = both (eqb (date .year) 2079 && eqb (date .month) 12) (eqb (date .day) 31) e in

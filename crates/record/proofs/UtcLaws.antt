@@ -27,12 +27,12 @@ use Rattle.record.specs.Sixty.{isSixty, at59, upTo59}
 use Rattle.record.specs.Rule.{datedRefusal, timeAloneRefusal, refusalOf, is60}
 use Rattle.record.specs.Next.{recordAfter, isLastOfCalendar, nextSecondOf}
 use Rattle.record.specs.Utc.{numberedAs, ownSeconds, countOf, utcSeconds}
-use Rattle.record.specs.Following.{TheNextSecondIsOneLater, ASixtySharesItsFollowersNumber, WithoutAFollowerItHasNoNumber}
+use Rattle.record.specs.Following.{TheNextSecondIsOneLater}
 use Rattle.record.proofs.RuleLaws.{good, good-counted}
 use Rattle.record.proofs.NextLaws.{moment-is, After, dated-after, followed, dated-follows, next-good, next-no-sixty}
 
 -- what was done one after the other
-done-after : {A B : Type 0} (first : Outcome A) (next : A → Outcome B) (result : B) → after first next ≡ done result
+pub done-after : {A B : Type 0} (first : Outcome A) (next : A → Outcome B) (result : B) → after first next ≡ done result
     → (value : A) × (first ≡ done value) × (next value ≡ done result)
 done-after (done value) next result e = (value, refl, e)
 done-after (refused n) next result e = let z : _≡_ {A = ℕ} 0 1 = cc in absurd (omega arith)
@@ -52,11 +52,11 @@ pub own-number : (rec : Record) → refusalOf rec ≡ 0 → is60 rec ≡ false �
 unfolding numberedAs
 own-number rec none plain = rw (plain, does rec none)
 
-followers-number : (rec : Record) (outcome : Outcome Record) → is60 rec ≡ true → nextSecondOf rec ≡ outcome → countOf rec ≡ after outcome ownSeconds
+pub followers-number : (rec : Record) (outcome : Outcome Record) → is60 rec ≡ true → nextSecondOf rec ≡ outcome → countOf rec ≡ after outcome ownSeconds
 unfolding numberedAs
 followers-number rec outcome sixty e = rw (sixty, e)
 
-next-number : (rec next : Record) → nextSecondOf rec ≡ done next → countOf next ≡ ownSeconds next
+pub next-number : (rec next : Record) → nextSecondOf rec ≡ done next → countOf next ≡ ownSeconds next
 next-number rec next e = own-number next (next-good rec next e) (next-no-sixty rec next e)
 
 -- a record with no date has no count

@@ -1,4 +1,4 @@
--- What document 01 says of records, in literal records and numbers, and the one statement over them. The numbers are not taken from any definition.
+-- What document 01, and document 02 in b, say of records, in literal records and numbers, and the one statement over them. The numbers are not taken from any definition.
 use mathlib.Core.Bool.{Bool, true, false}
 use mathlib.Core.List.{List, [], _∷_}
 use mathlib.Core.Path.{_≡_}
@@ -18,19 +18,22 @@ use Rattle.record.specs.declared.season.Count.the-variants.{Local, Utc}
 use Rattle.record.specs.Literals.{statusOf, standardTime, daylightTime, markedUtc}
 use Rattle.record.specs.Season.{toUtc}
 use Rattle.record.specs.Rule.{refusalOf}
+use Rattle.record.specs.Next.{nextSecondOf}
 use Rattle.record.specs.Utc.{countOf, utcSeconds}
 
--- a row: a record and the number that refuses it, its count, or its UTC seconds; or a local second and a season, and the UTC second
+-- a row: a record and the number that refuses it, its count, its UTC seconds, or its next second; or a local second and a season, and the UTC second
 pub data RecordRow : Type 0 where
   refusalIs : Record → ℕ → RecordRow
   countIs : Record → Outcome Count → RecordRow
   utcIs : Record → Outcome UtcSeconds → RecordRow
+  nextIs : Record → Outcome Record → RecordRow
   shiftIs : LocalSeconds → Bool → Outcome UtcSeconds → RecordRow
 
 abbrev pub RecordRowHolds : RecordRow → Type 0
 RecordRowHolds (refusalIs rec number) = refusalOf rec ≡ number
 RecordRowHolds (countIs rec outcome) = countOf rec ≡ outcome
 RecordRowHolds (utcIs rec outcome) = utcSeconds rec ≡ outcome
+RecordRowHolds (nextIs rec outcome) = nextSecondOf rec ≡ outcome
 RecordRowHolds (shiftIs local daylight outcome) = toUtc local daylight ≡ outcome
 
 -- A record: layout, status, weekday, date, time
@@ -73,6 +76,58 @@ printedRecords =
     ∷ refusalIs (Dated L6021 standardTime 7 (date 1996 1 3) (time 12 34 56)) 8
     ∷ []
 
--- one statement over the table
+-- Second 60, at the leap seconds that ended June 1981, 1989 and June 1997 in UTC, and beside them
+abbrev pub printedSixties : List RecordRow
+printedSixties =
+    -- "accept 60 when the minute is 59 and the same record with second 59 is the last second of a UTC month"
+    refusalIs (Dated L6021 standardTime 1 (date 1990 1 1) (time 0 59 60)) 0
+    ∷ refusalIs (Dated L2000 daylightTime 2 (date 1997 7 1) (time 1 59 60)) 0
+    ∷ refusalIs (Dated L5050 markedUtc 2 (date 1981 6 30) (time 23 59 60)) 0
+    ∷ refusalIs (Dated L6021 (statusOf Radio true true false) 2 (date 1981 6 30) (time 23 59 60)) 0
+    -- by the record's own season bit and mark
+    ∷ refusalIs (Dated L6021 daylightTime 1 (date 1990 1 1) (time 0 59 60)) 6
+    ∷ refusalIs (Dated L6021 standardTime 2 (date 1997 7 1) (time 1 59 60)) 6
+    ∷ refusalIs (Dated L6021 markedUtc 1 (date 1990 1 1) (time 0 59 60)) 6
+    ∷ refusalIs (Dated L6021 standardTime 2 (date 1981 6 30) (time 23 59 60)) 6
+    -- "6 is still given for every other 60 and above"
+    ∷ refusalIs (Dated L6021 standardTime 1 (date 1990 1 1) (time 0 58 60)) 6
+    ∷ refusalIs (Dated L6021 standardTime 1 (date 1990 1 1) (time 0 59 61)) 6
+    ∷ refusalIs (Dated L6021 standardTime 2 (date 1990 1 2) (time 0 59 60)) 6
+    ∷ refusalIs (Dated L6021 markedUtc 1 (date 1981 6 29) (time 23 59 60)) 6
+    -- "where that UTC moment lies before the calendar, 60 stays refused"
+    ∷ refusalIs (Dated L6021 standardTime 2 (date 1980 1 1) (time 0 59 60)) 6
+    ∷ refusalIs (Dated L6021 daylightTime 2 (date 1980 1 1) (time 1 59 60)) 6
+    -- 6 before 7, 5 before 6, and "its weekday aside": 8
+    ∷ refusalIs (Dated L6021 markedUtc 3 (date 1981 6 31) (time 23 59 60)) 6
+    ∷ refusalIs (Dated L5500 (statusOf High false false false) 1 (date 1990 1 1) (time 0 59 60)) 5
+    ∷ refusalIs (Dated L6021 standardTime 2 (date 1990 1 1) (time 0 59 60)) 8
+    -- "in time-only layouts when the minute is 59"
+    ∷ refusalIs (TimeOnly T6021 (time 12 59 60)) 0
+    ∷ refusalIs (TimeOnly T6021 (time 12 58 60)) 6
+    ∷ refusalIs (TimeOnly T6021 (time 12 59 61)) 6
+    ∷ refusalIs (TimeOnly T6021 (time 24 59 60)) 6
+    -- "the number of the second that follows it"
+    ∷ utcIs (Dated L6021 standardTime 1 (date 1990 1 1) (time 0 59 60)) (done (record { 0 = 315619200 }))
+    ∷ utcIs (Dated L6021 daylightTime 2 (date 1997 7 1) (time 1 59 60)) (done (record { 0 = 552182400 }))
+    ∷ utcIs (Dated L6021 markedUtc 2 (date 1981 6 30) (time 23 59 60)) (done (record { 0 = 47260800 }))
+    ∷ countIs (Dated L6021 standardTime 1 (date 1990 1 1) (time 0 59 60)) (done (Local (record { 0 = 315622800 })))
+    ∷ utcIs (TimeOnly T6021 (time 12 59 60)) (refused 14)
+    -- "go from 60 to 00"
+    ∷ nextIs (Dated L6021 standardTime 1 (date 1990 1 1) (time 0 59 60)) (done (Dated L6021 standardTime 1 (date 1990 1 1) (time 1 0 0)))
+    ∷ nextIs (Dated L6021 markedUtc 2 (date 1981 6 30) (time 23 59 60)) (done (Dated L6021 markedUtc 3 (date 1981 7 1) (time 0 0 0)))
+    ∷ nextIs (TimeOnly T6021 (time 23 59 60)) (done (TimeOnly T6021 (time 0 0 0)))
+    -- "neither makes a 60 by itself"
+    ∷ nextIs (Dated L6021 standardTime 1 (date 1990 1 1) (time 0 59 59)) (done (Dated L6021 standardTime 1 (date 1990 1 1) (time 1 0 0)))
+    -- "12 if there is none", "with 12 after 31.12.2079 23:59:60 too"
+    ∷ refusalIs (Dated L6021 markedUtc 7 (date 2079 12 31) (time 23 59 60)) 0
+    ∷ utcIs (Dated L6021 markedUtc 7 (date 2079 12 31) (time 23 59 60)) (refused 12)
+    ∷ countIs (Dated L6021 markedUtc 7 (date 2079 12 31) (time 23 59 60)) (refused 12)
+    ∷ nextIs (Dated L6021 markedUtc 7 (date 2079 12 31) (time 23 59 60)) (refused 12)
+    ∷ []
+
+-- one statement over each table
 abbrev pub RecordsAreAsPrinted : Type 0
 RecordsAreAsPrinted = EachHolds RecordRowHolds printedRecords
+
+abbrev pub SixtiesAreAsPrinted : Type 0
+SixtiesAreAsPrinted = EachHolds RecordRowHolds printedSixties
