@@ -1,7 +1,7 @@
 -- Laws of what stepping keeps: the layout and the status with the season, and so the distance of its count from UTC. Assumes nothing.
 use mathlib.Core.Path.{_≡_, refl, ap, sym, _∙_}
 use mathlib.Core.Bool.{Bool, true, false, not, cond}
-use Prim.Native.Nat.{ℕ, zero, suc, _+_, _<_}
+use Prim.Native.Nat.{ℕ, zero, suc, _+_, _-_, _<_}
 use native.Mathlib.Omega.{arith}
 use Rattle.refusals.specs.Refusals.{_when_, _else_, Outcome, done, refused, unless, after}
 use Rattle.refusals.proofs.Laws.{was-done}
@@ -13,31 +13,26 @@ use Rattle.record.specs.declared.Record.the-variants.{Dated, TimeOnly}
 use Rattle.record.specs.declared.season.UtcSeconds.{UtcSeconds}
 use Rattle.record.specs.declared.season.Count.{Count}
 use Rattle.record.specs.Season.{secondsLater, secondsIn, calendarSeconds}
-use Rattle.record.specs.Rule.{refusalOf, carriesDate}
+use Rattle.record.specs.Sixty.{upTo59}
+use Rattle.record.specs.Rule.{refusalOf, is60}
 use Rattle.record.specs.Next.{weekdayAfter, recordAfter, isLastOfCalendar, nextSecondOf}
-use Rattle.record.specs.Utc.{countOf, inUtc, utcSeconds}
-use Rattle.record.proofs.UtcLaws.{seconds-in-later, count-within, had-count, utc-later}
-use Rattle.record.proofs.NextLaws.{next-is-later}
+use Rattle.record.specs.Moment.{inUtc}
+use Rattle.record.specs.Utc.{countOf, utcSeconds}
+use Rattle.record.proofs.UtcLaws.{none-later, seconds-in-later, count-within, had-count, utc-later, next-is-later}
+use Rattle.record.proofs.FollowingLaws.{sixty-shares}
 use Rattle.clock.specs.declared.Clock.{Clock}
 use Rattle.clock.specs.declared.StepAnswer.the-variants as answer
 use Rattle.clock.specs.Stepping.{clockSecond, steppedBy, stepOf}
-use Rattle.clock.specs.Running.{stepped, StepsAddAsManyUtcSeconds, dated, lasting, SteppingDoesNotChangeTheSeason}
-
--- a clock's second is the record's next second
-second-is-next : (rec next : Record) → clockSecond rec ≡ done next → nextSecondOf rec ≡ done next
-unfolding clockSecond
-second-is-next rec next e = go (nextSecondOf rec) e
-  where
-    go : (outcome : Outcome Record) → after outcome (λ later. unless (14 when not (carriesDate rec)) later) ≡ done next → outcome ≡ done next
-    go (done later) e = ap done (was-done (14 when not (carriesDate rec)) later next e .1)
-    go (refused n) e = let z : _≡_ {A = ℕ} 0 1 = cc in absurd (omega arith)
+use Rattle.clock.specs.Running.{secondsOfSteps, stepped, StepsAddAsManyUtcSeconds, dated, lasting, SteppingDoesNotChangeTheSeason}
+use Rattle.clock.proofs.StepLaws.{second-is-next}
+use Rattle.clock.proofs.RunLaws.{one-step-more}
 
 -- the next second of a record says the same beside its time, date and weekday
 standing-after : (rec : Record) → lasting (recordAfter rec) ≡ lasting rec
-standing-after (Dated layout status weekday date time) = go (isLastSecond time)
+standing-after (Dated layout status weekday date time) = go (isLastSecond (upTo59 time))
   where
     go : (last : Bool)
-        → lasting (cond last (Dated layout status (weekdayAfter weekday) (dayAfter date) (timeAfter time)) (Dated layout status weekday date (timeAfter time)))
+        → lasting (cond last (Dated layout status (weekdayAfter weekday) (dayAfter date) (timeAfter (upTo59 time))) (Dated layout status weekday date (timeAfter (upTo59 time))))
         ≡ dated layout status
     go true = refl
     go false = refl
@@ -64,38 +59,53 @@ season-stays clock zero = refl
 season-stays clock (suc n) = lasting-stays (stepped n clock) ∙ season-stays clock n
 
 -- UTC seconds go with the count while the status stays
-utc-goes-along : (rec next : Record) (count : Count) (utc : UtcSeconds) → lasting next ≡ lasting rec → countOf rec ≡ done count
-    → countOf next ≡ done (secondsLater 1 count) → secondsIn count + 1 < calendarSeconds → utcSeconds rec ≡ done utc
-    → utcSeconds next ≡ done (record { 0 = utc .0 + 1 })
-utc-goes-along (Dated layout status weekday date time) (Dated layout′ status′ weekday′ date′ time′) count utc same here later within e =
+utc-goes-along : (rec next : Record) (count : Count) (utc : UtcSeconds) (n : ℕ) → lasting next ≡ lasting rec → countOf rec ≡ done count
+    → countOf next ≡ done (secondsLater n count) → secondsIn count + n < calendarSeconds → utcSeconds rec ≡ done utc
+    → utcSeconds next ≡ done (record { 0 = utc .0 + n })
+utc-goes-along (Dated layout status weekday date time) (Dated layout′ status′ weekday′ date′ time′) count utc n same here later within e =
     let kept : status′ ≡ status = cc in
     ap (λ o. after o (λ counted. inUtc (status′ .daylight) counted)) later
-    ∙ ap (λ (s : Status). inUtc (s .daylight) (secondsLater 1 count)) kept
-    ∙ utc-later (status .daylight) count utc 1 within (ap (λ o. after o (λ counted. inUtc (status .daylight) counted)) (sym here) ∙ e)
-utc-goes-along (Dated layout status weekday date time) (TimeOnly layout′ time′) count utc same here later within e =
+    ∙ ap (λ (s : Status). inUtc (s .daylight) (secondsLater n count)) kept
+    ∙ utc-later (status .daylight) count utc n within (ap (λ o. after o (λ counted. inUtc (status .daylight) counted)) (sym here) ∙ e)
+utc-goes-along (Dated layout status weekday date time) (TimeOnly layout′ time′) count utc n same here later within e =
     let z : _≡_ {A = ℕ} 0 1 = cc in absurd (omega arith)
-utc-goes-along (TimeOnly layout time) next count utc same here later within e = let z : _≡_ {A = ℕ} 0 1 = cc in absurd (omega arith)
+utc-goes-along (TimeOnly layout time) next count utc n same here later within e = let z : _≡_ {A = ℕ} 0 1 = cc in absurd (omega arith)
 
--- a step that is made adds one UTC second
+-- what follows has the number of seconds that a step adds
+later-by-a-step : (rec next : Record) (count : Count) → nextSecondOf rec ≡ done next → countOf rec ≡ done count
+    → countOf next ≡ done (secondsLater (secondsOfSteps 1 rec) count)
+later-by-a-step rec next count follows counted = go (is60 rec) refl
+  where
+    go : (sixty : Bool) → is60 rec ≡ sixty → countOf next ≡ done (secondsLater (cond sixty 0 1) count)
+    go true sixty = sym (sixty-shares rec next sixty follows .0) ∙ counted ∙ ap done (sym (none-later count))
+    go false plain = next-is-later rec next count plain follows counted
+
+-- a step that is made adds its UTC seconds
 utc-step : (clock : Clock) (utc : UtcSeconds) → utcSeconds (clock .rec) ≡ done utc → stepOf clock .answer ≡ answer.Stepped
-    → utcSeconds (stepOf clock .clock .rec) ≡ done (record { 0 = utc .0 + 1 })
+    → utcSeconds (stepOf clock .clock .rec) ≡ done (record { 0 = utc .0 + secondsOfSteps 1 (clock .rec) })
 unfolding stepOf
 utc-step clock utc e = go (clockSecond (clock .rec)) refl
   where
     go : (outcome : Outcome Record) → clockSecond (clock .rec) ≡ outcome → steppedBy clock outcome .answer ≡ answer.Stepped
-        → utcSeconds (steppedBy clock outcome .clock .rec) ≡ done (record { 0 = utc .0 + 1 })
+        → utcSeconds (steppedBy clock outcome .clock .rec) ≡ done (record { 0 = utc .0 + secondsOfSteps 1 (clock .rec) })
     go (done next) is made =
         let follows = second-is-next (clock .rec) next is in
         let had = had-count (clock .rec) utc e in
-        let later = next-is-later (clock .rec) next (had .0) follows (had .1) in
-        let within : secondsIn (had .0) + 1 < calendarSeconds = omega (arith, seconds-in-later (had .0) 1, count-within next (secondsLater 1 (had .0)) later) in
-        utc-goes-along (clock .rec) next (had .0) utc (standing-next (clock .rec) next follows) (had .1) later within e
+        let later = later-by-a-step (clock .rec) next (had .0) follows (had .1) in
+        let within : secondsIn (had .0) + secondsOfSteps 1 (clock .rec) < calendarSeconds =
+        omega (arith, seconds-in-later (had .0) (secondsOfSteps 1 (clock .rec)), count-within next _ later) in
+        utc-goes-along (clock .rec) next (had .0) utc _ (standing-next (clock .rec) next follows) (had .1) later within e
     go (refused n) is made = let z : _≡_ {A = ℕ} 0 1 = cc in absurd (omega arith)
 
 pub steps-add-utc-seconds : StepsAddAsManyUtcSeconds
 unfolding stepped
-steps-add-utc-seconds clock utc zero e made = e ∙ (let same : utc .0 ≡ utc .0 + 0 = omega arith in λ i. done (record { 0 = same i }))
+steps-add-utc-seconds clock utc zero e made = e ∙ go (is60 (clock .rec))
+  where
+    go : (sixty : Bool) → _≡_ {A = Outcome UtcSeconds} (done utc) (done (record { 0 = utc .0 + cond sixty (0 - 1) 0 }))
+    go true = let same : utc .0 ≡ utc .0 + 0 = omega arith in λ i. done (record { 0 = same i })
+    go false = let same : utc .0 ≡ utc .0 + 0 = omega arith in λ i. done (record { 0 = same i })
 steps-add-utc-seconds clock utc (suc n) e made =
     let so-far = steps-add-utc-seconds clock utc n e (λ k below. made k (omega arith)) in
-    let more : utc .0 + n + 1 ≡ utc .0 + suc n = omega arith in
-    utc-step (stepped n clock) (record { 0 = utc .0 + n }) so-far (made n (omega arith)) ∙ (λ i. done (record { 0 = more i }))
+    let step = one-step-more n clock (λ k below. made k (omega arith)) in
+    let more : utc .0 + secondsOfSteps n (clock .rec) + secondsOfSteps 1 (stepped n clock .rec) ≡ utc .0 + secondsOfSteps (suc n) (clock .rec) = omega (arith, step) in
+    utc-step (stepped n clock) (record { 0 = utc .0 + secondsOfSteps n (clock .rec) }) so-far (made n (omega arith)) ∙ (λ i. done (record { 0 = more i }))

@@ -1,6 +1,6 @@
+pub mod AsPrintedHolds
 pub mod StepLaws
 pub mod RunLaws
 pub mod KeepLaws
-pub mod AsPrintedHolds
 pub mod Whole
 pub mod Machine

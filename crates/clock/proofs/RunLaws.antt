@@ -1,46 +1,40 @@
--- Laws of a clock that runs: each step adds one second to its count, up to the end of the calendar. Assumes nothing.
+-- Laws of a clock that runs: each step adds one second to its count, but from a second 60, up to the end of the calendar. Assumes nothing.
 use mathlib.Core.Path.{_≡_, refl, ap, sym, _∙_}
-use mathlib.Core.Bool.{Bool, true, false, _&&_}
-use Prim.Native.Nat.{ℕ, zero, suc, _+_, _-_, _*_, _<_}
+use mathlib.Core.Bool.{Bool, true, false, cond, _&&_}
+use Prim.Native.Nat.{ℕ, zero, suc, _+_, _-_, _*_, _<_, _≤_}
 use native.Mathlib.Omega.{arith}
-use lib.Dec.{eqb}
-use borrow.Author.Tests.{eqb-true}
-use Rattle.refusals.specs.Refusals.{done, refused, unless}
+use lib.Dec.{ltb, eqb}
+use borrow.Author.Tests.{ltb-true, ltb-false, eqb-true}
+use Rattle.refusals.specs.Refusals.{Outcome, done, refused, unless}
 use Rattle.refusals.proofs.Laws.{both, does}
-use Rattle.calendar.specs.Calendar.{monthLength, dayOf, isLastDay, dayAfter}
+use Rattle.calendar.specs.Calendar.{dayOf, isLastDay, dayAfter}
 use Rattle.calendar.specs.TimeOfDay.{secondsOf, isLastSecond}
 use Rattle.calendar.specs.declared.date.Date.{Date}
 use Rattle.calendar.specs.declared.time.Time.{Time}
-use Rattle.calendar.proofs.Months.{start-next, start-end}
 use Rattle.calendar.proofs.Dates.{Good as GoodDate, good as date-good, day-within, day-after}
 use Rattle.calendar.proofs.Times.{Good as GoodTime, good-range, seconds-within, last-second}
 use Rattle.record.specs.declared.DatedLayout.{DatedLayout}
 use Rattle.record.specs.declared.Status.{Status}
+use Rattle.record.specs.declared.Record.{Record}
 use Rattle.record.specs.declared.Record.the-variants.{Dated}
 use Rattle.record.specs.declared.season.Count.{Count}
 use Rattle.record.specs.Season.{secondsLater, secondsIn, calendarSeconds}
-use Rattle.record.specs.Rule.{datedRefusal}
+use Rattle.record.specs.Sixty.{isSixty, upTo59}
+use Rattle.record.specs.Rule.{datedRefusal, is60}
 use Rattle.record.specs.Next.{recordAfter, isLastOfCalendar, nextSecondOf}
-use Rattle.record.specs.Utc.{countOf}
-use Rattle.record.proofs.RuleLaws.{good}
-use Rattle.record.proofs.UtcLaws.{placed, placed-seconds, none-later, later-still, seconds-in-later}
-use Rattle.record.proofs.NextLaws.{next-is-later}
+use Rattle.record.specs.Utc.{ownSeconds, countOf}
+use Rattle.record.proofs.SixtyLaws.{last-number}
+use Rattle.record.proofs.RuleLaws.{good, good-counted}
+use Rattle.record.proofs.NextLaws.{next-no-sixty}
+use Rattle.record.proofs.UtcLaws.{done-after, followers-number, plain-time, placed, placed-seconds, count-within, none-later, later-still, seconds-in-later, next-is-later}
+use Rattle.record.proofs.FollowingLaws.{sixty-shares}
 use Rattle.clock.specs.declared.Clock.{Clock}
-use Rattle.clock.specs.Running.{AStepAddsOneSecond, TheLastSecondGives12, stepped, EachIsMade, StepsAddAsManySeconds}
-use Rattle.clock.proofs.StepLaws.{second-refused, goes-on}
+use Rattle.clock.specs.declared.StepAnswer.the-variants as answer
+use Rattle.clock.specs.Stepping.{clockSecond, steppedBy, stepOf}
+use Rattle.clock.specs.Running.{secondsOfSteps, AStepAddsOneSecond, TheLastSecondGives12, TheLastSixtyGives12, NoStepMakesASixty, stepped, EachIsMade, StepsAddAsManySeconds}
+use Rattle.clock.proofs.StepLaws.{second-is-next, second-refused, goes-on}
 
--- The end of the calendar, by its day number and by its second.
-last-day-is : (date : Date) → isLastDay date ≡ true → dayOf date ≡ 36524
-unfolding isLastDay dayOf monthLength
-last-day-is date e =
-    let month = both (eqb (date .year) 2079 && eqb (date .month) 12) (eqb (date .day) 31) e in
-    let year = both (eqb (date .year) 2079) (eqb (date .month) 12) (month .0) in
-    let y : date .year ≡ 2079 = eqb-true _ _ (year .0) in
-    let m : date .month ≡ 12 = eqb-true _ _ (year .1) in
-    let d : date .day ≡ 31 = eqb-true _ _ (month .1) in
-    let index : 12 * (date .year - 1980) + (date .month - 1) ≡ 1199 = omega arith in
-    rw index (omega (arith, start-next 1199, start-end))
-
+-- The end of the calendar, by its second and by its day number.
 last-second-is : (time : Time) → isLastSecond time ≡ true → secondsOf time ≡ 86399
 unfolding isLastSecond secondsOf
 last-second-is time e =
@@ -64,65 +58,137 @@ is-last-day date g e = go (isLastDay date) refl
         let next = day-after date g more in
         absurd (omega (arith, next .number, day-within (dayAfter date) (next .good)))
 
--- The seconds of a good record with a date tell whether it is the calendar's last.
+-- The seconds of a good record with a date, up to 59, tell whether it is the calendar's last.
 module _ (layout : DatedLayout) (status : Status) (weekday : ℕ) (date : Date) (time : Time)
     (none : datedRefusal layout status weekday date time ≡ 0) where
-  not-last : 86400 * dayOf date + secondsOf time + 1 < calendarSeconds → isLastOfCalendar (Dated layout status weekday date time) ≡ false
-  not-last before = go (isLastSecond time && isLastDay date) refl
+  not-last : 86400 * dayOf date + secondsOf (upTo59 time) + 1 < calendarSeconds → isLastOfCalendar (Dated layout status weekday date time) ≡ false
+  not-last before = go (isLastSecond (upTo59 time) && isLastDay date) refl
     where
-      go : (last : Bool) → (isLastSecond time && isLastDay date) ≡ last → last ≡ false
+      go : (last : Bool) → (isLastSecond (upTo59 time) && isLastDay date) ≡ last → last ≡ false
       go true e =
-          let parts = both (isLastSecond time) (isLastDay date) e in
-          absurd (omega (arith, last-second-is time (parts .0), last-day-is date (parts .1)))
+          let parts = both (isLastSecond (upTo59 time)) (isLastDay date) e in
+          absurd (omega (arith, last-second-is (upTo59 time) (parts .0), last-number date (parts .1)))
       go false e = refl
 
-  is-last : 86400 * dayOf date + secondsOf time + 1 ≡ calendarSeconds → isLastOfCalendar (Dated layout status weekday date time) ≡ true
+  is-last : 86400 * dayOf date + secondsOf (upTo59 time) + 1 ≡ calendarSeconds → isLastOfCalendar (Dated layout status weekday date time) ≡ true
   is-last end =
       let g = good layout status weekday date time none in
-      let t = good-range time (g .time-in-range) in
+      let t = good-range (upTo59 time) (good-counted layout status weekday date time g) in
       let d = date-good date (g .date-good) in
-      let second : secondsOf time ≡ 86399 = omega (arith, seconds-within time t, day-within date d) in
-      let day : dayOf date ≡ 36524 = omega (arith, seconds-within time t, day-within date d) in
-      rw (is-last-second time t second, is-last-day date d day)
+      let second : secondsOf (upTo59 time) ≡ 86399 = omega (arith, seconds-within (upTo59 time) t, day-within date d) in
+      let day : dayOf date ≡ 36524 = omega (arith, seconds-within (upTo59 time) t, day-within date d) in
+      rw (is-last-second (upTo59 time) t second, is-last-day date d day)
 
-  second-follows : 86400 * dayOf date + secondsOf time + 1 < calendarSeconds
-      → nextSecondOf (Dated layout status weekday date time) ≡ done (recordAfter (Dated layout status weekday date time))
-  unfolding nextSecondOf
-  second-follows before = does _ (rw (none, not-last before))
+  -- and no second 60 is counted by its own second
+  module _ (plain : isSixty time ≡ false) where
+    own-second : secondsOf (upTo59 time) ≡ secondsOf time
+    own-second = ap secondsOf (plain-time time plain)
 
-  calendar-ends : 86400 * dayOf date + secondsOf time + 1 ≡ calendarSeconds
-      → nextSecondOf (Dated layout status weekday date time) ≡ refused 12
-  unfolding nextSecondOf unless
-  calendar-ends end = rw (none, is-last end)
+    second-follows : 86400 * dayOf date + secondsOf time + 1 < calendarSeconds
+        → nextSecondOf (Dated layout status weekday date time) ≡ done (recordAfter (Dated layout status weekday date time))
+    unfolding nextSecondOf
+    second-follows before = does _ (rw (none, not-last (omega (arith, own-second))))
+
+    calendar-ends : 86400 * dayOf date + secondsOf time + 1 ≡ calendarSeconds
+        → nextSecondOf (Dated layout status weekday date time) ≡ refused 12
+    unfolding nextSecondOf unless
+    calendar-ends end = rw (none, is-last (omega (arith, own-second)))
+
+-- What follows a record that has a count and is not the calendar's last.
+module _ (rec : Record) (count : Count) (counted : countOf rec ≡ done count) where
+  goes : secondsIn count + secondsOfSteps 1 rec < calendarSeconds
+      → (next : Record) × (nextSecondOf rec ≡ done next) × (countOf next ≡ done (secondsLater (secondsOfSteps 1 rec) count))
+  goes before = go (is60 rec) refl before
+    where
+      go : (sixty : Bool) → is60 rec ≡ sixty → secondsIn count + cond sixty 0 1 < calendarSeconds
+          → (next : Record) × (nextSecondOf rec ≡ done next) × (countOf next ≡ done (secondsLater (cond sixty 0 1) count))
+      go true sixty before =
+          let had = done-after (nextSecondOf rec) ownSeconds count (sym (followers-number rec (nextSecondOf rec) sixty refl) ∙ counted) in
+          (had .0, had .1, sym (sixty-shares rec (had .0) sixty (had .1) .0) ∙ counted ∙ ap done (sym (none-later count)))
+      go false plain before =
+          let p = placed rec count counted in
+          let seconds = placed-seconds rec count counted p in
+          let follows = ap nextSecondOf (p .is) ∙ second-follows _ _ _ _ _ (p .none) (ap is60 (sym (p .is)) ∙ plain) (omega arith) in
+          (_, follows, next-is-later rec _ count plain follows counted)
 
 -- One step of a clock with a date.
 pub step-adds-a-second : AStepAddsOneSecond
 step-adds-a-second clock count counted before =
     let p = placed (clock .rec) count counted in
-    let seconds = placed-seconds (clock .rec) count counted p in
-    let follows = ap nextSecondOf (p .is) ∙ second-follows _ _ _ _ _ (p .none) (omega arith) in
-    let made = goes-on clock _ _ _ _ _ _ (p .is) follows in
-    (ap (λ s. s .answer) (sym made), ap (λ s. countOf (s .clock .rec)) (sym made) ∙ next-is-later (clock .rec) _ count follows counted)
+    let n = goes (clock .rec) count counted before in
+    let made = goes-on clock _ _ _ _ _ (n .0) (p .is) (n .1) in
+    (ap (λ s. s .answer) (sym made), ap (λ s. countOf (s .clock .rec)) (sym made) ∙ n .2)
 
 pub last-second-gives-12 : TheLastSecondGives12
-last-second-gives-12 clock count counted end =
-    let p = placed (clock .rec) count counted in
-    let seconds = placed-seconds (clock .rec) count counted p in
-    let ends = ap nextSecondOf (p .is) ∙ calendar-ends _ _ _ _ _ (p .none) (omega arith) in
+last-second-gives-12 clock count counted end = go (is60 (clock .rec)) refl end
+  where
+    go : (sixty : Bool) → is60 (clock .rec) ≡ sixty → secondsIn count + cond sixty 0 1 ≡ calendarSeconds → stepOf clock .answer ≡ answer.Refused 12
+    go true sixty end = absurd (omega (arith, count-within (clock .rec) count counted))
+    go false plain end =
+        let p = placed (clock .rec) count counted in
+        let seconds = placed-seconds (clock .rec) count counted p in
+        let ends = ap nextSecondOf (p .is) ∙ calendar-ends _ _ _ _ _ (p .none) (ap is60 (sym (p .is)) ∙ plain) (omega arith) in
+        ap (λ s. s .answer) (sym (second-refused clock 12 ends))
+
+pub last-sixty-gives-12 : TheLastSixtyGives12
+unfolding nextSecondOf unless upTo59 isLastSecond isLastDay
+last-sixty-gives-12 clock layout status is none =
+    let ends : nextSecondOf (clock .rec) ≡ refused 12 = rw (none, is) in
     ap (λ s. s .answer) (sym (second-refused clock 12 ends))
+
+-- a step that is made leaves no second 60
+pub step-makes-no-sixty : NoStepMakesASixty
+unfolding stepOf
+step-makes-no-sixty clock = go (clockSecond (clock .rec)) refl
+  where
+    go : (outcome : Outcome Record) → clockSecond (clock .rec) ≡ outcome → steppedBy clock outcome .answer ≡ answer.Stepped
+        → is60 (steppedBy clock outcome .clock .rec) ≡ false
+    go (done next) is made = next-no-sixty (clock .rec) next (second-is-next (clock .rec) next is)
+    go (refused n) is made = let z : _≡_ {A = ℕ} 0 1 = cc in absurd (omega arith)
+
+-- one step more adds one second more, but the first from a second 60
+pub one-step-more : (n : ℕ) (clock : Clock) → EachIsMade n clock
+    → secondsOfSteps n (clock .rec) + secondsOfSteps 1 (stepped n clock .rec) ≡ secondsOfSteps (suc n) (clock .rec)
+unfolding stepped
+one-step-more zero clock made = go (is60 (clock .rec))
+  where
+    go : (sixty : Bool) → cond sixty (0 - 1) 0 + cond sixty (1 - 1) 1 ≡ cond sixty (1 - 1) 1
+    go true = refl
+    go false = refl
+one-step-more (suc n) clock made =
+    let plain = step-makes-no-sixty (stepped n clock) (made n (omega arith)) in
+    rw plain (go (is60 (clock .rec)))
+  where
+    go : (sixty : Bool) → cond sixty (suc n - 1) (suc n) + 1 ≡ cond sixty (suc (suc n) - 1) (suc (suc n))
+    go true = omega arith
+    go false = omega arith
 
 -- Any number of steps of a clock with a date that stays in the calendar.
 module _ (clock : Clock) (count : Count) (counted : countOf (clock .rec) ≡ done count) where
-  counted-after : (n : ℕ) → secondsIn count + n < calendarSeconds → countOf (stepped n clock .rec) ≡ done (secondsLater n count)
+  after-steps : (n : ℕ) → secondsIn count + secondsOfSteps n (clock .rec) < calendarSeconds
+      → EachIsMade n clock × (countOf (stepped n clock .rec) ≡ done (secondsLater (secondsOfSteps n (clock .rec)) count))
   unfolding stepped
-  counted-after zero before = counted ∙ ap done (sym (none-later count))
-  counted-after (suc n) before =
-      step-adds-a-second (stepped n clock) (secondsLater n count) (counted-after n (omega arith)) (omega (arith, seconds-in-later count n)) .1
-      ∙ ap done (later-still count n)
+  after-steps zero before = ((λ k below. absurd (omega arith)), counted ∙ ap done (sym (none-later count) ∙ ap (λ n. secondsLater n count) (go (is60 (clock .rec)))))
+    where
+      go : (sixty : Bool) → 0 ≡ cond sixty (0 - 1) 0
+      go true = refl
+      go false = refl
+  after-steps (suc n) before =
+      let so-far = after-steps n (omega (arith, fewer (is60 (clock .rec)))) in
+      let more = one-step-more n clock (so-far .0) in
+      let step = step-adds-a-second (stepped n clock) (secondsLater (secondsOfSteps n (clock .rec)) count) (so-far .1) (omega (arith, seconds-in-later count (secondsOfSteps n (clock .rec)), more)) in
+      (each (so-far .0) (step .0), step .1 ∙ ap done (later-still count (secondsOfSteps n (clock .rec)) (secondsOfSteps 1 (stepped n clock .rec)) ∙ ap (λ k. secondsLater k count) more))
+    where
+      fewer : (sixty : Bool) → cond sixty (n - 1) n ≤ cond sixty (suc n - 1) (suc n)
+      fewer true = omega arith
+      fewer false = omega arith
 
-  made-within : (n : ℕ) → secondsIn count + n < calendarSeconds → EachIsMade n clock
-  made-within n before k within =
-      step-adds-a-second (stepped k clock) (secondsLater k count) (counted-after k (omega arith)) (omega (arith, seconds-in-later count k)) .0
+      each : EachIsMade n clock → stepOf (stepped n clock) .answer ≡ answer.Stepped → EachIsMade (suc n) clock
+      each before here k below = go (ltb k n) refl
+        where
+          go : (less : Bool) → ltb k n ≡ less → stepOf (stepped k clock) .answer ≡ answer.Stepped
+          go true less = before k (ltb-true k n less)
+          go false more = let same : k ≡ n = omega (arith, ltb-false k n more) in rw same here
 
 pub steps-add-seconds : StepsAddAsManySeconds
-steps-add-seconds clock count n counted before = (made-within clock count counted n before, counted-after clock count counted n before)
+steps-add-seconds clock count n counted before = after-steps clock count counted n before

@@ -4,7 +4,7 @@ use mathlib.Core.Bool.{not}
 use Prim.Native.Nat.{ℕ, zero, suc}
 use native.Mathlib.Omega.{arith}
 use Rattle.refusals.specs.Refusals.{_when_, _else_, Outcome, done, refused, unless, after}
-use Rattle.refusals.proofs.Laws.{else-assoc}
+use Rattle.refusals.proofs.Laws.{was-done, else-assoc}
 use Rattle.calendar.specs.declared.date.Date.{Date}
 use Rattle.calendar.specs.declared.time.Time.{Time}
 use Rattle.record.specs.declared.DatedLayout.{DatedLayout}
@@ -20,6 +20,15 @@ use Rattle.clock.specs.declared.Stepped.{Stepped}
 use Rattle.clock.specs.Stepping.{clockSecond, withRecord, steppedBy, stepOf}
 use Rattle.clock.specs.Answers.{stepAnswer}
 use Rattle.clock.specs.Running.{ARefusedClockIsUnchanged}
+
+-- a clock's second is the record's next second
+pub second-is-next : (rec next : Record) → clockSecond rec ≡ done next → nextSecondOf rec ≡ done next
+unfolding clockSecond
+second-is-next rec next e = go (nextSecondOf rec) e
+  where
+    go : (outcome : Outcome Record) → after outcome (λ later. unless (14 when not (carriesDate rec)) later) ≡ done next → outcome ≡ done next
+    go (done later) e = ap done (was-done (14 when not (carriesDate rec)) later next e .1)
+    go (refused n) e = let z : _≡_ {A = ℕ} 0 1 = cc in absurd (omega arith)
 
 -- The ways in which a step ends.
 module _ (clock : Clock) where

@@ -1,7 +1,9 @@
--- Document 01, "Calendar, UTC and the station clock": a clock that runs, what its steps add, and what they keep.
+-- Document 01, "Calendar, UTC and the station clock", and document 02, b: a clock that runs, what its steps add, and what they keep.
 use mathlib.Core.Path.{_≡_}
-use Prim.Native.Nat.{ℕ, zero, suc, _+_, _<_}
+use mathlib.Core.Bool.{false, cond}
+use Prim.Native.Nat.{ℕ, zero, suc, _+_, _-_, _<_}
 use Rattle.refusals.specs.Refusals.{done, refused}
+use Rattle.calendar.specs.Literals.{date, time}
 use Rattle.record.specs.declared.DatedLayout.{DatedLayout}
 use Rattle.record.specs.declared.TimeLayout.{TimeLayout}
 use Rattle.record.specs.declared.Status.{Status}
@@ -10,23 +12,38 @@ use Rattle.record.specs.declared.Record.the-variants.{Dated, TimeOnly}
 use Rattle.record.specs.declared.season.UtcSeconds.{UtcSeconds}
 use Rattle.record.specs.declared.season.Count.{Count}
 use Rattle.record.specs.Season.{secondsLater, secondsIn, calendarSeconds}
+use Rattle.record.specs.Rule.{refusalOf, is60}
 use Rattle.record.specs.Utc.{countOf, utcSeconds}
 use Rattle.clock.specs.declared.Clock.{Clock}
 use Rattle.clock.specs.declared.StepAnswer.the-variants as answer
 use Rattle.clock.specs.Stepping.{stepOf}
 use Rattle.clock.specs.Answers.{stepAnswer}
 
--- "the station clock is stepped by one second": up to the calendar's last second the step is made, and adds one second to the count
+-- how many seconds so many steps add: one each, but the first from a second 60, whose number its follower shares
+abbrev pub secondsOfSteps : ℕ → Record → ℕ
+secondsOfSteps n rec = cond (is60 rec) (n - 1) n
+
+-- "the station clock is stepped by one second": up to the calendar's last second the step is made, and adds its second to the count
 abbrev pub AStepAddsOneSecond : Type 0
 AStepAddsOneSecond =
-    (clock : Clock) (count : Count) → countOf (clock .rec) ≡ done count → secondsIn count + 1 < calendarSeconds
-    → (stepOf clock .answer ≡ answer.Stepped) × (countOf (stepOf clock .clock .rec) ≡ done (secondsLater 1 count))
+    (clock : Clock) (count : Count) → countOf (clock .rec) ≡ done count → secondsIn count + secondsOfSteps 1 (clock .rec) < calendarSeconds
+    → (stepOf clock .answer ≡ answer.Stepped) × (countOf (stepOf clock .clock .rec) ≡ done (secondsLater (secondsOfSteps 1 (clock .rec)) count))
 
 -- "12 after 31.12.2079 23:59:59"
 abbrev pub TheLastSecondGives12 : Type 0
 TheLastSecondGives12 =
-    (clock : Clock) (count : Count) → countOf (clock .rec) ≡ done count → secondsIn count + 1 ≡ calendarSeconds
+    (clock : Clock) (count : Count) → countOf (clock .rec) ≡ done count → secondsIn count + secondsOfSteps 1 (clock .rec) ≡ calendarSeconds
     → stepOf clock .answer ≡ answer.Refused 12
+
+-- "with 12 after 31.12.2079 23:59:60 too"
+abbrev pub TheLastSixtyGives12 : Type 0
+TheLastSixtyGives12 =
+    (clock : Clock) (layout : DatedLayout) (status : Status) → clock .rec ≡ Dated layout status 7 (date 2079 12 31) (time 23 59 60)
+    → refusalOf (clock .rec) ≡ 0 → stepOf clock .answer ≡ answer.Refused 12
+
+-- "neither makes a 60 by itself": a clock that a step has moved
+abbrev pub NoStepMakesASixty : Type 0
+NoStepMakesASixty = (clock : Clock) → stepOf clock .answer ≡ answer.Stepped → is60 (stepOf clock .clock .rec) ≡ false
 
 -- "refused with 5 to 8, 12 or 14 it is unchanged"
 abbrev pub ARefusedClockIsUnchanged : Type 0
@@ -42,17 +59,17 @@ stepped (suc n) clock = stepOf (stepped n clock) .clock
 abbrev pub EachIsMade : ℕ → Clock → Type 0
 EachIsMade n clock = (k : ℕ) → k < n → stepOf (stepped k clock) .answer ≡ answer.Stepped
 
--- n steps that end in the calendar are made, each of them, and add n seconds to the count
+-- n steps that end in the calendar are made, each of them, and add their seconds to the count
 abbrev pub StepsAddAsManySeconds : Type 0
 StepsAddAsManySeconds =
-    (clock : Clock) (count : Count) (n : ℕ) → countOf (clock .rec) ≡ done count → secondsIn count + n < calendarSeconds
-    → EachIsMade n clock × (countOf (stepped n clock .rec) ≡ done (secondsLater n count))
+    (clock : Clock) (count : Count) (n : ℕ) → countOf (clock .rec) ≡ done count → secondsIn count + secondsOfSteps n (clock .rec) < calendarSeconds
+    → EachIsMade n clock × (countOf (stepped n clock .rec) ≡ done (secondsLater (secondsOfSteps n (clock .rec)) count))
 
--- n steps that are made add n UTC seconds
+-- n steps that are made add their UTC seconds
 abbrev pub StepsAddAsManyUtcSeconds : Type 0
 StepsAddAsManyUtcSeconds =
     (clock : Clock) (utc : UtcSeconds) (n : ℕ) → utcSeconds (clock .rec) ≡ done utc → EachIsMade n clock
-    → utcSeconds (stepped n clock .rec) ≡ done (record { 0 = utc .0 + n })
+    → utcSeconds (stepped n clock .rec) ≡ done (record { 0 = utc .0 + secondsOfSteps n (clock .rec) })
 
 -- what a record says beside its time, date and weekday. The season stands in the status
 pub data Lasting : Type 0 where

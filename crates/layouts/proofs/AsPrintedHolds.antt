@@ -3,14 +3,14 @@ use mathlib.Core.Path.{refl}
 use Rattle.refusals.specs.Refusals.{unless}
 use Rattle.places.specs.Places.{isDecimal, isCapital, codeValue, codeCharacter, render}
 use Rattle.calendar.specs.Calendar.{isLeap, monthLength, monthInRange, dateInRange, dayExists, monthStart, dayOf}
-use Rattle.calendar.specs.TimeOfDay.{timeInRange, timeRefusal}
-use Rattle.record.specs.Rule.{plainUtc, tableCanSay, statusAllowed, weekdayAllowed, weekdayAgrees, datedRefusal}
+use Rattle.calendar.specs.TimeOfDay.{timeInRange}
+use Rattle.record.specs.Rule.{plainUtc, tableCanSay, statusAllowed, weekdayAllowed, weekdayAgrees, timeAllowed, timeAloneAllowed, timeAloneRefusal, datedRefusal}
 use Rattle.layouts.specs.Layouts.{placesOf, layoutOf}
 use Rattle.layouts.specs.Coding.{statusIn6021, statusOut6021, statusIn5500, statusOut5500}
 use Rattle.layouts.specs.AsPrinted.{TheTablesAreAsPrinted}
 
 pub as-printed : TheTablesAreAsPrinted
-unfolding unless isDecimal isCapital codeValue codeCharacter render isLeap monthLength monthInRange dateInRange dayExists monthStart dayOf timeInRange timeRefusal plainUtc tableCanSay statusAllowed weekdayAllowed weekdayAgrees datedRefusal placesOf layoutOf statusIn6021 statusOut6021 statusIn5500 statusOut5500
+unfolding unless isDecimal isCapital codeValue codeCharacter render isLeap monthLength monthInRange dateInRange dayExists monthStart dayOf timeInRange timeAllowed timeAloneAllowed timeAloneRefusal plainUtc tableCanSay statusAllowed weekdayAllowed weekdayAgrees datedRefusal placesOf layoutOf statusIn6021 statusOut6021 statusIn5500 statusOut5500
 as-printed =
     record {
       codesOf6021 = record { allStatuses = refl; allWeekdays = refl; read = refl; written = refl };

@@ -15,7 +15,6 @@ use Rattle.calendar.specs.declared.date.Date.{Date}
 use Rattle.calendar.specs.declared.time.Time.{Time}
 use Rattle.calendar.proofs.Dates as dates
 use Rattle.calendar.proofs.Months.{month-28-to-31}
-use Rattle.calendar.proofs.Times as times
 use Rattle.record.specs.declared.DatedLayout.{DatedLayout}
 use Rattle.record.specs.declared.DatedLayout.the-variants.{L6021, L2000, L5500, L5050}
 use Rattle.record.specs.declared.TimeLayout.{TimeLayout}
@@ -42,7 +41,7 @@ weekday-bound : (weekday : ℕ) → weekdayAllowed weekday ≡ true → weekday 
 unfolding weekdayAllowed
 weekday-bound weekday e = dates.inside-both 1 weekday 7 e .1
 
-time-back : (time : Time) → times.Good time
+time-back : (time : Time) → rule.Within time
     → _≡_ {A = Time}
     (record { hour = 10 * (time .hour / 10 % 16) + time .hour % 10 % 16; minute = 10 * (time .minute / 10 % 16) + time .minute % 10 % 16; second = 10 * (time .second / 10 % 16) + time .second % 10 % 16 })
     time
@@ -57,7 +56,7 @@ pub record-back : (rec : Record) → refusalOf rec ≡ 0 → recordIn (ownLayout
 record-back (Dated layout status weekday date time) none =
     let g = rule.good layout status weekday date time none in
     let d = dates.good date (g .date-good) in
-    let t = times.good-range time (g .time-in-range) in
+    let t = rule.within time (rule.good-counted layout status weekday date time g) in
     let w = weekday-bound weekday (g .weekday-allowed) in
     let m = month-28-to-31 (date .year) (date .month) .1 in
     λ i. Dated layout (status-back layout status weekday (g .status-allowed) i) (weekday-back layout status weekday w i)
@@ -67,7 +66,7 @@ record-back (Dated layout status weekday date time) none =
       day = pair-back (date .day) (omega (arith, d .to-day)) i;
     })
     (time-back time t i)
-record-back (TimeOnly layout time) none = ap (TimeOnly layout) (time-back time (times.good time none))
+record-back (TimeOnly layout time) none = ap (TimeOnly layout) (time-back time (rule.within time (rule.alone-counted time none)))
 
 -- A record's digits are 0 in each slot that its layout does not use.
 abbrev idle : Bool → ℕ → Type 0
@@ -108,7 +107,7 @@ record Small (layout : DatedLayout) (status : Status) (weekday : ℕ) (date : Da
   pub century-top : centuryOut layout (date .year) ≤ 20
   pub day-top : date .day ≤ 31
   pub month-top : date .month ≤ 12
-  pub time-good : times.Good time
+  pub time-within : rule.Within time
 
 small-fields : (layout : DatedLayout) (status : Status) (weekday : ℕ) (date : Date) (time : Time)
     → refusalOf (Dated layout status weekday date time) ≡ 0 → Small layout status weekday date time
@@ -122,7 +121,7 @@ small-fields layout status weekday date time none =
       century-top = omega (arith, century-small layout (date .year), d);
       day-top = omega (arith, d .to-day);
       month-top = omega (arith, d);
-      time-good = times.good-range time (g .time-in-range);
+      time-within = rule.within time (rule.good-counted layout status weekday date time g);
     }
 
 digits-shown : (rec : Record) → refusalOf rec ≡ 0 → allShown (digitsOut rec) (placesOf (ownLayout rec))
@@ -131,9 +130,9 @@ digits-shown (Dated L6021 status weekday date time) none = omega (arith, small-f
 digits-shown (Dated L2000 status weekday date time) none = omega (arith, small-fields L2000 status weekday date time none)
 digits-shown (Dated L5500 status weekday date time) none = omega (arith, small-fields L5500 status weekday date time none)
 digits-shown (Dated L5050 status weekday date time) none = omega (arith, small-fields L5050 status weekday date time none)
-digits-shown (TimeOnly T6021 time) none = omega (arith, times.good time none)
-digits-shown (TimeOnly T5500 time) none = omega (arith, times.good time none)
-digits-shown (TimeOnly T5050 time) none = omega (arith, times.good time none)
+digits-shown (TimeOnly T6021 time) none = omega (arith, rule.within time (rule.alone-counted time none))
+digits-shown (TimeOnly T5500 time) none = omega (arith, rule.within time (rule.alone-counted time none))
+digits-shown (TimeOnly T5050 time) none = omega (arith, rule.within time (rule.alone-counted time none))
 
 digits-size : (rec : Record) → length (digitsOut rec) ≡ slots
 digits-size (Dated layout status weekday date time) = refl

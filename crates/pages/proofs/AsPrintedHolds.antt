@@ -3,8 +3,8 @@ use mathlib.Core.Path.{refl}
 use Rattle.refusals.specs.Refusals.{unless}
 use Rattle.places.specs.Places.{isDecimal, isCapital, codeValue}
 use Rattle.calendar.specs.Calendar.{isLeap, monthLength, monthInRange, dateInRange, dayExists, monthStart, dayOf}
-use Rattle.calendar.specs.TimeOfDay.{timeInRange, timeRefusal}
-use Rattle.record.specs.Rule.{plainUtc, tableCanSay, statusAllowed, weekdayAllowed, weekdayAgrees, datedRefusal}
+use Rattle.calendar.specs.TimeOfDay.{timeInRange}
+use Rattle.record.specs.Rule.{plainUtc, tableCanSay, statusAllowed, weekdayAllowed, weekdayAgrees, timeAllowed, timeAloneAllowed, timeAloneRefusal, datedRefusal}
 use Rattle.layouts.specs.Layouts.{placesOf, layoutOf}
 use Rattle.layouts.specs.Coding.{statusIn6021, statusIn5500}
 use Rattle.telegram.specs.Reading.{carried, bodyRefusal, readOf}
@@ -14,5 +14,5 @@ use Rattle.pages.specs.Whole.{listingOf}
 use Rattle.pages.specs.AsPrinted.{TheWholeListingIsAsPrinted}
 
 pub as-printed : TheWholeListingIsAsPrinted
-unfolding unless isDecimal isCapital codeValue isLeap monthLength monthInRange dateInRange dayExists monthStart dayOf timeInRange timeRefusal plainUtc tableCanSay statusAllowed weekdayAllowed weekdayAgrees datedRefusal placesOf layoutOf statusIn6021 statusIn5500 carried bodyRefusal readOf decimal decimalWithin headerRow datedRow refusedRow strayRow statusColumn listingOf
+unfolding unless isDecimal isCapital codeValue isLeap monthLength monthInRange dateInRange dayExists monthStart dayOf timeInRange timeAllowed timeAloneAllowed timeAloneRefusal plainUtc tableCanSay statusAllowed weekdayAllowed weekdayAgrees datedRefusal placesOf layoutOf statusIn6021 statusIn5500 carried bodyRefusal readOf decimal decimalWithin headerRow datedRow refusedRow strayRow statusColumn listingOf
 as-printed = (refl, refl)

@@ -8,11 +8,10 @@ use lib.Dec.{eqb}
 use lib.ListN.{length}
 use Rattle.refusals.specs.Refusals.{_when_, _else_, Outcome, done, refused, unless, after}
 use Rattle.refusals.proofs.Laws.{was-refused}
-use Rattle.calendar.specs.TimeOfDay.{timeInRange, timeRefusal}
 use Rattle.calendar.specs.Calendar.{dateInRange, dayExists}
 use Rattle.record.specs.declared.Record.{Record}
 use Rattle.record.specs.declared.Record.the-variants.{Dated, TimeOnly}
-use Rattle.record.specs.Rule.{statusAllowed, weekdayAllowed, weekdayAgrees, datedRefusal, refusalOf}
+use Rattle.record.specs.Rule.{statusAllowed, weekdayAllowed, weekdayAgrees, timeAllowed, timeAloneAllowed, timeAloneRefusal, datedRefusal, refusalOf}
 use Rattle.places.specs.Places.{faultOf, fixedHolds, decimalHolds, codeHolds, every}
 use Rattle.layouts.specs.declared.Layout.{Layout}
 use Rattle.layouts.specs.Layouts.{placesOf, layoutOf}
@@ -27,12 +26,12 @@ else-small zero b ha hb = hb
 else-small (suc a) b ha hb = ha
 
 record-small : (rec : Record) → refusalOf rec ≤ 8
-unfolding datedRefusal timeRefusal
+unfolding datedRefusal timeAloneRefusal
 record-small (Dated layout status weekday date time) =
     else-small _ _ (when-small 5 (not (statusAllowed layout status && weekdayAllowed weekday)) (omega arith))
-    (else-small _ _ (when-small 6 (not (timeInRange time && dateInRange date)) (omega arith))
+    (else-small _ _ (when-small 6 (not (timeAllowed status date time && dateInRange date)) (omega arith))
     (else-small _ _ (when-small 7 (not (dayExists date)) (omega arith)) (when-small 8 (not (weekdayAgrees weekday date)) (omega arith))))
-record-small (TimeOnly layout time) = when-small 6 (not (timeInRange time)) (omega arith)
+record-small (TimeOnly layout time) = when-small 6 (not (timeAloneAllowed time)) (omega arith)
 
 fault-small : (characters decimals codes : Bool) → faultOf characters decimals codes ≤ 8
 fault-small characters decimals codes =

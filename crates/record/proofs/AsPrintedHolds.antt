@@ -27,7 +27,7 @@ as-printed =
     (refl, (refl, (refl, (refl, (refl, (refl, (refl, (refl, (refl, (refl, (refl, (refl, (refl, (refl, (refl, (refl, (refl, (refl, (refl, (refl, (refl, (refl, (refl, (refl, (refl, (refl, (refl, tt)))))))))))))))))))))))))))
 
 -- Of the calendar's last second 60 the fields are asked, as they say the same: to seek its month through the whole calendar is too long.
-abbrev lastSixty : Record
+abbrev pub lastSixty : Record
 lastSixty = Dated L6021 markedUtc 7 (date 2079 12 31) (time 23 59 60)
 
 last-allowed : timeAllowed markedUtc (date 2079 12 31) (time 23 59 60) ≡ true
@@ -49,7 +49,7 @@ last-good =
     last-day : isLastDay (date 2079 12 31) ≡ true
     last-day = refl
 
-last-next : nextSecondOf lastSixty ≡ refused 12
+pub last-next : nextSecondOf lastSixty ≡ refused 12
 unfolding unless nextSecondOf upTo59 isLastSecond isLastDay
 last-next = rw last-good
 

@@ -95,9 +95,9 @@ pub none-later : (count : Count) → secondsLater 0 count ≡ count
 none-later (Local local) = let same : local .0 + 0 ≡ local .0 = omega arith in λ i. Local (record { 0 = same i })
 none-later (Utc utc) = let same : utc .0 + 0 ≡ utc .0 = omega arith in λ i. Utc (record { 0 = same i })
 
-pub later-still : (count : Count) (n : ℕ) → secondsLater 1 (secondsLater n count) ≡ secondsLater (suc n) count
-later-still (Local local) n = let more : local .0 + n + 1 ≡ local .0 + suc n = omega arith in λ i. Local (record { 0 = more i })
-later-still (Utc utc) n = let more : utc .0 + n + 1 ≡ utc .0 + suc n = omega arith in λ i. Utc (record { 0 = more i })
+pub later-still : (count : Count) (n m : ℕ) → secondsLater m (secondsLater n count) ≡ secondsLater (n + m) count
+later-still (Local local) n m = let more : local .0 + n + m ≡ local .0 + (n + m) = omega arith in λ i. Local (record { 0 = more i })
+later-still (Utc utc) n m = let more : utc .0 + n + m ≡ utc .0 + (n + m) = omega arith in λ i. Utc (record { 0 = more i })
 
 pub seconds-in-later : (count : Count) (n : ℕ) → secondsIn (secondsLater n count) ≡ secondsIn count + n
 seconds-in-later (Local local) n = refl

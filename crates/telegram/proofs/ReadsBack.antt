@@ -33,7 +33,7 @@ as-6021-good (Dated layout status weekday date time) same none e =
     (record {
       status-allowed = refl;
       weekday-allowed = g .weekday-allowed;
-      time-in-range = g .time-in-range;
+      time-allowed = g .time-allowed;
       date-good = g .date-good;
       weekday-agrees = g .weekday-agrees;
     })
