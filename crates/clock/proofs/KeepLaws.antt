@@ -18,8 +18,8 @@ use Rattle.record.specs.Rule.{refusalOf, is60}
 use Rattle.record.specs.Next.{weekdayAfter, recordAfter, isLastOfCalendar, nextSecondOf}
 use Rattle.record.specs.Moment.{inUtc}
 use Rattle.record.specs.Utc.{countOf, utcSeconds}
-use Rattle.record.proofs.UtcLaws.{none-later, seconds-in-later, count-within, had-count, utc-later, next-is-later}
-use Rattle.record.proofs.FollowingLaws.{sixty-shares}
+use Rattle.record.proofs.UtcLaws.{seconds-in-later, count-within, had-count, utc-later}
+use Rattle.record.proofs.FollowingLaws.{next-is-later}
 use Rattle.clock.specs.declared.Clock.{Clock}
 use Rattle.clock.specs.declared.StepAnswer.the-variants as answer
 use Rattle.clock.specs.Stepping.{clockSecond, steppedBy, stepOf}
@@ -71,15 +71,6 @@ utc-goes-along (Dated layout status weekday date time) (TimeOnly layout′ time�
     let z : _≡_ {A = ℕ} 0 1 = cc in absurd (omega arith)
 utc-goes-along (TimeOnly layout time) next count utc n same here later within e = let z : _≡_ {A = ℕ} 0 1 = cc in absurd (omega arith)
 
--- what follows has the number of seconds that a step adds
-later-by-a-step : (rec next : Record) (count : Count) → nextSecondOf rec ≡ done next → countOf rec ≡ done count
-    → countOf next ≡ done (secondsLater (secondsOfSteps 1 rec) count)
-later-by-a-step rec next count follows counted = go (is60 rec) refl
-  where
-    go : (sixty : Bool) → is60 rec ≡ sixty → countOf next ≡ done (secondsLater (cond sixty 0 1) count)
-    go true sixty = sym (sixty-shares rec next sixty follows .0) ∙ counted ∙ ap done (sym (none-later count))
-    go false plain = next-is-later rec next count plain follows counted
-
 -- a step that is made adds its UTC seconds
 utc-step : (clock : Clock) (utc : UtcSeconds) → utcSeconds (clock .rec) ≡ done utc → stepOf clock .answer ≡ answer.Stepped
     → utcSeconds (stepOf clock .clock .rec) ≡ done (record { 0 = utc .0 + secondsOfSteps 1 (clock .rec) })
@@ -91,7 +82,7 @@ utc-step clock utc e = go (clockSecond (clock .rec)) refl
     go (done next) is made =
         let follows = second-is-next (clock .rec) next is in
         let had = had-count (clock .rec) utc e in
-        let later = later-by-a-step (clock .rec) next (had .0) follows (had .1) in
+        let later = next-is-later (clock .rec) next (had .0) follows (had .1) in
         let within : secondsIn (had .0) + secondsOfSteps 1 (clock .rec) < calendarSeconds =
         omega (arith, seconds-in-later (had .0) (secondsOfSteps 1 (clock .rec)), count-within next _ later) in
         utc-goes-along (clock .rec) next (had .0) utc _ (standing-next (clock .rec) next follows) (had .1) later within e

@@ -26,8 +26,8 @@ use Rattle.record.specs.Utc.{ownSeconds, countOf}
 use Rattle.record.proofs.SixtyLaws.{last-number}
 use Rattle.record.proofs.RuleLaws.{good, good-counted}
 use Rattle.record.proofs.NextLaws.{next-no-sixty}
-use Rattle.record.proofs.UtcLaws.{done-after, followers-number, plain-time, placed, placed-seconds, count-within, none-later, later-still, seconds-in-later, next-is-later}
-use Rattle.record.proofs.FollowingLaws.{sixty-shares}
+use Rattle.record.proofs.UtcLaws.{done-after, followers-number, plain-time, placed, placed-seconds, count-within, none-later, later-still, seconds-in-later}
+use Rattle.record.proofs.FollowingLaws.{next-is-later}
 use Rattle.clock.specs.declared.Clock.{Clock}
 use Rattle.clock.specs.declared.StepAnswer.the-variants as answer
 use Rattle.clock.specs.Stepping.{clockSecond, steppedBy, stepOf}
@@ -94,22 +94,19 @@ module _ (layout : DatedLayout) (status : Status) (weekday : ℕ) (date : Date) 
     unfolding nextSecondOf unless
     calendar-ends end = rw (none, is-last (omega (arith, own-second)))
 
--- What follows a record that has a count and is not the calendar's last.
+-- A record that has a count and is not the calendar's last has a next second.
 module _ (rec : Record) (count : Count) (counted : countOf rec ≡ done count) where
-  goes : secondsIn count + secondsOfSteps 1 rec < calendarSeconds
-      → (next : Record) × (nextSecondOf rec ≡ done next) × (countOf next ≡ done (secondsLater (secondsOfSteps 1 rec) count))
+  goes : secondsIn count + secondsOfSteps 1 rec < calendarSeconds → (next : Record) × (nextSecondOf rec ≡ done next)
   goes before = go (is60 rec) refl before
     where
-      go : (sixty : Bool) → is60 rec ≡ sixty → secondsIn count + cond sixty 0 1 < calendarSeconds
-          → (next : Record) × (nextSecondOf rec ≡ done next) × (countOf next ≡ done (secondsLater (cond sixty 0 1) count))
+      go : (sixty : Bool) → is60 rec ≡ sixty → secondsIn count + cond sixty 0 1 < calendarSeconds → (next : Record) × (nextSecondOf rec ≡ done next)
       go true sixty before =
           let had = done-after (nextSecondOf rec) ownSeconds count (sym (followers-number rec (nextSecondOf rec) sixty refl) ∙ counted) in
-          (had .0, had .1, sym (sixty-shares rec (had .0) sixty (had .1) .0) ∙ counted ∙ ap done (sym (none-later count)))
+          (had .0, had .1)
       go false plain before =
           let p = placed rec count counted in
           let seconds = placed-seconds rec count counted p in
-          let follows = ap nextSecondOf (p .is) ∙ second-follows _ _ _ _ _ (p .none) (ap is60 (sym (p .is)) ∙ plain) (omega arith) in
-          (_, follows, next-is-later rec _ count plain follows counted)
+          (_, ap nextSecondOf (p .is) ∙ second-follows _ _ _ _ _ (p .none) (ap is60 (sym (p .is)) ∙ plain) (omega arith))
 
 -- One step of a clock with a date.
 pub step-adds-a-second : AStepAddsOneSecond
@@ -117,7 +114,7 @@ step-adds-a-second clock count counted before =
     let p = placed (clock .rec) count counted in
     let n = goes (clock .rec) count counted before in
     let made = goes-on clock _ _ _ _ _ (n .0) (p .is) (n .1) in
-    (ap (λ s. s .answer) (sym made), ap (λ s. countOf (s .clock .rec)) (sym made) ∙ n .2)
+    (ap (λ s. s .answer) (sym made), ap (λ s. countOf (s .clock .rec)) (sym made) ∙ next-is-later (clock .rec) (n .0) count (n .1) counted)
 
 pub last-second-gives-12 : TheLastSecondGives12
 last-second-gives-12 clock count counted end = go (is60 (clock .rec)) refl end

@@ -38,12 +38,12 @@ printedSteps =
     ∷ stepIs (Dated L6021 standardTime 7 (date 2079 12 31) (time 23 59 59)) (Dated L6021 standardTime 7 (date 2079 12 31) (time 23 59 59)) (Refused 12)
     ∷ stepIs (TimeOnly T6021 (time 12 34 56)) (TimeOnly T6021 (time 12 34 56)) (Refused 14)
     -- "stepping goes from 60 to 00": minute, hour, date and weekday
-    ∷ stepIs (Dated L6021 standardTime 1 (date 1990 1 1) (time 0 59 60)) (Dated L6021 standardTime 1 (date 1990 1 1) (time 1 0 0)) Stepped
+    ∷ stepIs (Dated L6021 standardTime 3 (date 1981 7 1) (time 0 59 60)) (Dated L6021 standardTime 3 (date 1981 7 1) (time 1 0 0)) Stepped
     ∷ stepIs (Dated L6021 markedUtc 2 (date 1981 6 30) (time 23 59 60)) (Dated L6021 markedUtc 3 (date 1981 7 1) (time 0 0 0)) Stepped
     -- "neither makes a 60 by itself"
     ∷ stepIs (Dated L6021 markedUtc 2 (date 1981 6 30) (time 23 59 59)) (Dated L6021 markedUtc 3 (date 1981 7 1) (time 0 0 0)) Stepped
     -- "6 is still given for every other 60"; a time-only one is good, and carries no date
-    ∷ stepIs (Dated L6021 standardTime 2 (date 1990 1 2) (time 0 59 60)) (Dated L6021 standardTime 2 (date 1990 1 2) (time 0 59 60)) (Refused 6)
+    ∷ stepIs (Dated L6021 standardTime 4 (date 1981 7 2) (time 0 59 60)) (Dated L6021 standardTime 4 (date 1981 7 2) (time 0 59 60)) (Refused 6)
     ∷ stepIs (TimeOnly T6021 (time 12 59 60)) (TimeOnly T6021 (time 12 59 60)) (Refused 14)
     -- "with 12 after 31.12.2079 23:59:60 too"
     ∷ stepIs (Dated L6021 markedUtc 7 (date 2079 12 31) (time 23 59 60)) (Dated L6021 markedUtc 7 (date 2079 12 31) (time 23 59 60)) (Refused 12)

@@ -2,10 +2,13 @@
 use mathlib.Core.Path.{refl}
 use Rattle.refusals.specs.Refusals.{unless}
 use Rattle.places.specs.Places.{isDecimal, isCapital, codeValue}
-use Rattle.calendar.specs.Calendar.{isLeap, monthLength, monthInRange, dateInRange, dayExists, monthStart, dayOf}
-use Rattle.calendar.specs.TimeOfDay.{timeInRange, secondsOf}
+use Rattle.calendar.specs.Calendar.{isLeap, monthLength, monthInRange, dateInRange, dayExists, dateRefusal, monthStart, dayOf, dayNumber}
+use Rattle.calendar.specs.TimeOfDay.{timeInRange, timeRefusal, secondsOf, secondOfDay}
 use Rattle.record.specs.Season.{seasonShift, toUtc}
+use Rattle.record.specs.Moment.{momentOf}
+use Rattle.record.specs.Sixty.{sixtyBehind59, takesSixty}
 use Rattle.record.specs.Rule.{plainUtc, tableCanSay, statusAllowed, weekdayAllowed, weekdayAgrees, timeAllowed, timeAloneAllowed, timeAloneRefusal, datedRefusal}
+use Rattle.record.specs.Utc.{numberedAs}
 use Rattle.layouts.specs.Layouts.{placesOf, layoutOf}
 use Rattle.layouts.specs.Coding.{statusIn6021, statusIn5500}
 use Rattle.telegram.specs.Reading.{carried, bodyRefusal, readOf}
@@ -13,6 +16,6 @@ use Rattle.board.specs.Of6036.{parameterIn}
 use Rattle.demands.specs.Boundary.{TheBoundaryTableHolds}
 
 pub boundary-table : TheBoundaryTableHolds
-unfolding unless isDecimal isCapital codeValue isLeap monthLength monthInRange dateInRange dayExists monthStart dayOf timeInRange timeAllowed timeAloneAllowed timeAloneRefusal secondsOf plainUtc tableCanSay statusAllowed weekdayAllowed weekdayAgrees datedRefusal seasonShift toUtc placesOf layoutOf statusIn6021 statusIn5500 carried bodyRefusal readOf parameterIn
+unfolding unless numberedAs momentOf sixtyBehind59 takesSixty dayNumber secondOfDay dateRefusal timeRefusal isDecimal isCapital codeValue isLeap monthLength monthInRange dateInRange dayExists monthStart dayOf timeInRange timeAllowed timeAloneAllowed timeAloneRefusal secondsOf plainUtc tableCanSay statusAllowed weekdayAllowed weekdayAgrees datedRefusal seasonShift toUtc placesOf layoutOf statusIn6021 statusIn5500 carried bodyRefusal readOf parameterIn
 boundary-table =
     ((refl, refl), ((refl, refl), ((refl, refl), ((refl, refl), ((refl, refl), ((refl, refl), ((refl, refl), ((refl, refl), ((refl, refl), ((refl, refl), ((refl, refl), (refl, (refl, tt)))))))))))))

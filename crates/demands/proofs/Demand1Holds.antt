@@ -154,19 +154,15 @@ demand-1-next-second rec = refuses (5 ∷ 6 ∷ 7 ∷ 8 ∷ 12 ∷ []) (nextSeco
     go (Dated layout status weekday date time) = refl
     go (TimeOnly layout time) = refl
 
-pub demand-1-count : CountingRefuses
-demand-1-count rec = refuses (5 ∷ 6 ∷ 7 ∷ 8 ∷ 14 ∷ []) (countOf rec) (countRules rec) (count-rules rec) (go rec)
-  where
-    go : (rec : Record) → tested (5 ∷ 6 ∷ 7 ∷ 8 ∷ 14 ∷ []) (countRules rec) ≡ true
-    go (Dated layout status weekday date time) = refl
-    go (TimeOnly layout time) = refl
-
 abbrev withDate : List ℕ
 withDate = 5 ∷ 6 ∷ 7 ∷ 8 ∷ 12 ∷ 14 ∷ []
 
 twelve-and-fourteen : (rec : Record) (a b : Bool) → tested withDate (recordRules rec ++ 12 givenWhen a ∷ 14 givenWhen b ∷ []) ≡ true
 twelve-and-fourteen (Dated layout status weekday date time) a b = refl
 twelve-and-fourteen (TimeOnly layout time) a b = refl
+
+pub demand-1-count : CountingRefuses
+demand-1-count rec = refuses withDate (countOf rec) (countRules rec) (count-rules rec) (twelve-and-fourteen rec _ _)
 
 pub demand-1-utc : UtcSecondsRefuse
 demand-1-utc rec = refuses withDate (utcSeconds rec) (utcRules rec) (utc-rules rec) (twelve-and-fourteen rec _ _)

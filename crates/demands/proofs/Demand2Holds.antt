@@ -1,6 +1,6 @@
 -- Demand 2 holds. Assumes nothing.
 use mathlib.Core.Path.{_≡_, refl, ap, sym, _∙_}
-use mathlib.Core.Bool.{Bool, true, false}
+use mathlib.Core.Bool.{Bool, true, false, cond}
 use mathlib.Core.List.{List}
 use Prim.Native.Nat.{ℕ, zero, suc, _+_, _%_, _≤_}
 use native.Mathlib.Omega.{arith}
@@ -11,11 +11,17 @@ use Rattle.laying.specs.Laying.{within, laidIn}
 use Rattle.laying.proofs.LayingLaws.{within-fits, within-done}
 use Rattle.places.specs.Places.{render}
 use Rattle.calendar.specs.TimeOfDay.{secondsOf, timeAfter, isLastSecond}
-use Rattle.calendar.proofs.Times.{Follows, good, seconds-within, time-after}
+use Rattle.calendar.proofs.Times as times
+use Rattle.calendar.proofs.Times.{Follows, seconds-within, time-after}
 use Rattle.record.specs.declared.Record.{Record}
+use Rattle.record.specs.Sixty.{isSixty, upTo59}
 use Rattle.record.specs.Rule.{refusalOf}
 use Rattle.record.specs.Next.{nextSecondOf}
-use Rattle.record.proofs.NextLaws.{next-is-later}
+use Rattle.record.proofs.RuleLaws.{alone-counted}
+use Rattle.record.proofs.NextLaws.{next-no-sixty}
+use Rattle.record.proofs.UtcLaws.{sixty-second, plain-time}
+use Rattle.record.proofs.FollowingLaws.{next-is-later}
+use Rattle.clock.proofs.RunLaws.{step-makes-no-sixty}
 use Rattle.telegram.specs.declared.write.Choice.{Choice}
 use Rattle.telegram.specs.declared.write.Choice.the-variants.{Unnamed}
 use Rattle.telegram.specs.Reading.{readOf}
@@ -23,7 +29,7 @@ use Rattle.telegram.specs.Writing.{bodyBytes, telegramOf, as6021, recordToWrite
 use Rattle.telegram.proofs.WriteLaws.{telegram-made, was-made}
 use Rattle.telegram.proofs.BackAndForth.{written-reads-back, accepted-is-written}
 use Rattle.telegram.proofs.ReadsBack.{write-reads-back}
-use Rattle.demands.specs.Demand2.{Good, plain, advanced, ATelegramIsItsRow, ATelegramHasTheTablesLength, WrittenByTheTables, ReadByTheTables, TheReaderAcceptsExactlyWhatTheWriterCanMake, WhatIsWrittenReadsBack, WhatIsWrittenWithoutASettingReadsBack, WrittenWithAdvanceItReadsBackAsTheNextSecond, TheNextSecondIsOneLater, TheNextSecondOfADayIsOneLater}
+use Rattle.demands.specs.Demand2.{Good, plain, advanced, ATelegramIsItsRow, ATelegramHasTheTablesLength, WrittenByTheTables, ReadByTheTables, TheReaderAcceptsExactlyWhatTheWriterCanMake, WhatIsWrittenReadsBack, WhatIsWrittenWithoutASettingReadsBack, WrittenWithAdvanceItReadsBackAsTheNextSecond, TheNextSecondIsOneLater, TheNextSecondOfADayIsOneLater, NeitherMakesASixty}
 use Rattle.demands.proofs.TableLengths.{telegram-length}
 
 pub demand-2-is-its-row : ATelegramIsItsRow
@@ -100,9 +106,25 @@ demand-2-one-later = next-is-later
 pub demand-2-one-later-in-a-day : TheNextSecondOfADayIsOneLater
 unfolding nextSecondOf
 demand-2-one-later-in-a-day layout time none =
-    let next = time-after time (good time none) in
-    (timeAfter time, rw none (does _ refl), later (isLastSecond time) next)
+    (timeAfter (upTo59 time), rw none (does _ refl), later (isSixty time) refl (isLastSecond (upTo59 time)) next)
   where
-    later : (carry : Bool) → Follows time (timeAfter time) carry → secondsOf (timeAfter time) ≡ (secondsOf time + 1) % 86400
-    later true f = omega (arith, f .second, seconds-within (timeAfter time) (f .good), seconds-within time (good time none))
-    later false f = omega (arith, f .second, seconds-within (timeAfter time) (f .good))
+    g : times.Good (upTo59 time)
+    g = times.good-range (upTo59 time) (alone-counted time none)
+
+    next : Follows (upTo59 time) (timeAfter (upTo59 time)) (isLastSecond (upTo59 time))
+    next = time-after (upTo59 time) g
+
+    -- up to 59, and then by the seconds that it goes on
+    here : (sixty : Bool) → isSixty time ≡ sixty → secondsOf (upTo59 time) + 1 ≡ secondsOf time + cond sixty 0 1
+    here true sixty = let e = sixty-second time sixty in omega arith
+    here false plain = ap (λ t. secondsOf t + 1) (plain-time time plain)
+
+    later : (sixty : Bool) → isSixty time ≡ sixty → (carry : Bool) → Follows (upTo59 time) (timeAfter (upTo59 time)) carry
+        → secondsOf (timeAfter (upTo59 time)) ≡ (secondsOf time + cond sixty 0 1) % 86400
+    later sixty is true f =
+        rw (← here sixty is) (omega (arith, f .second, seconds-within (timeAfter (upTo59 time)) (f .good), seconds-within (upTo59 time) g))
+    later sixty is false f = rw (← here sixty is) (omega (arith, f .second, seconds-within (timeAfter (upTo59 time)) (f .good)))
+
+pub neither-makes-a-sixty : NeitherMakesASixty
+neither-makes-a-sixty =
+    ((λ control rec same room bytes e read. next-no-sixty rec same (sym (demand-2-next-second control rec room bytes e) ∙ read)), step-makes-no-sixty)

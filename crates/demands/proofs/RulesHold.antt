@@ -1,6 +1,6 @@
 -- When each entry point refuses: by the first of its rules that holds. Assumes nothing.
 use mathlib.Core.Path.{_≡_, refl, ap, sym, _∙_}
-use mathlib.Core.Bool.{Bool, true, false, cond, not, _&&_}
+use mathlib.Core.Bool.{Bool, true, false, cond, not, _&&_, _||_}
 use mathlib.Core.List.{List, [], _∷_, _++_, map, append-assoc}
 use Prim.Native.Nat.{ℕ, _+_, _*_}
 use native.Mathlib.Omega.{arith}
@@ -12,14 +12,16 @@ use Rattle.laying.specs.Laying.{within}
 use Rattle.laying.proofs.LayingLaws.{within-unless, within-refused}
 use Rattle.places.specs.Places.{fixedHolds, decimalHolds, codeHolds, every}
 use Rattle.calendar.specs.Calendar.{dateInRange, dayExists, dayOf, dayAfter}
-use Rattle.calendar.specs.TimeOfDay.{timeInRange, timeRefusal, secondsOf, isLastSecond, timeAfter}
+use Rattle.calendar.specs.TimeOfDay.{timeInRange, secondsOf, isLastSecond, timeAfter}
 use Rattle.record.specs.declared.DatedLayout.the-variants.{L6021}
 use Rattle.record.specs.declared.Record.{Record}
 use Rattle.record.specs.declared.Record.the-variants.{Dated, TimeOnly}
-use Rattle.record.specs.Rule.{statusAllowed, weekdayAllowed, weekdayAgrees, datedRefusal, refusalOf, carriesDate}
+use Rattle.record.specs.Moment.{asMarked}
+use Rattle.record.specs.Sixty.{isSixty, sixtyBehind59, takesSixty, upTo59}
+use Rattle.record.specs.Rule.{statusAllowed, weekdayAllowed, weekdayAgrees, timeAllowed, timeAloneAllowed, timeAloneRefusal, datedRefusal, refusalOf, carriesDate}
 use Rattle.record.specs.Next.{weekdayAfter, recordAfter, isLastOfCalendar, nextSecondOf}
-use Rattle.record.specs.Utc.{asMarked, countOf, utcSeconds}
-use Rattle.record.proofs.UtcLaws.{utc-lowest-first}
+use Rattle.record.specs.Utc.{countOf, utcSeconds}
+use Rattle.record.proofs.UtcLaws.{time-count, count-lowest-first, utc-lowest-first}
 use Rattle.layouts.specs.declared.Layout.{Layout}
 use Rattle.layouts.specs.Layouts.{placesOf, ownLayout, layoutOf}
 use Rattle.telegram.specs.declared.write.Choice.{Choice}
@@ -32,17 +34,17 @@ use Rattle.clock.specs.Answers.{stepAnswer}
 use Rattle.clock.proofs.StepLaws.{lowest-first}
 use Rattle.demands.specs.Lengths.{sevenLayouts, lengthOf}
 use Rattle.demands.specs.Numbers.{Rule, _givenWhen_, among, firstOf, _byFirst_}
-use Rattle.demands.specs.Rules.{recordRules, rulesIn, readingRules, nextSecondRules, writingRules, countRules, isBeforeUtc, utcRules, stepRules}
+use Rattle.demands.specs.Rules.{recordRules, rulesIn, readingRules, nextSecondRules, writingRules, noneFollows, countRules, isBeforeUtc, utcRules, stepRules}
 use Rattle.demands.proofs.TableLengths.{telegram-length, found, length-in-table}
 use Rattle.demands.proofs.Refusing.{else-nothing, first-of-both, unless-by, then-by}
 
 -- the rule for a record
 pub record-rules : (rec : Record) → refusalOf rec ≡ firstOf (recordRules rec)
-unfolding datedRefusal timeRefusal
+unfolding datedRefusal timeAllowed timeAloneAllowed timeAloneRefusal
 record-rules (Dated layout status weekday date time) =
-    ap (λ n. 5 when not (statusAllowed layout status && weekdayAllowed weekday) else 6 when not (timeInRange time && dateInRange date) else 7 when not (dayExists date) else n)
+    ap (λ n. 5 when not (statusAllowed layout status && weekdayAllowed weekday) else 6 when not ((timeInRange time || takesSixty status date time) && dateInRange date) else 7 when not (dayExists date) else n)
     (sym (else-nothing (8 when not (weekdayAgrees weekday date))))
-record-rules (TimeOnly layout time) = sym (else-nothing (6 when not (timeInRange time)))
+record-rules (TimeOnly layout time) = sym (else-nothing (6 when not (timeInRange time || sixtyBehind59 time)))
 
 -- a number behind the record's
 behind-record : (rec : Record) (n : ℕ) (rules : List Rule) → n ≡ firstOf rules → (refusalOf rec else n) ≡ firstOf (recordRules rec ++ rules)
@@ -93,10 +95,10 @@ reading-rules control bytes =
 
 -- writing
 next-layout : (rec : Record) → ownLayout (recordAfter rec) ≡ ownLayout rec
-next-layout (Dated layout status weekday date time) = go (isLastSecond time)
+next-layout (Dated layout status weekday date time) = go (isLastSecond (upTo59 time))
   where
     go : (last : Bool)
-        → ownLayout (cond last (Dated layout status (weekdayAfter weekday) (dayAfter date) (timeAfter time)) (Dated layout status weekday date (timeAfter time)))
+        → ownLayout (cond last (Dated layout status (weekdayAfter weekday) (dayAfter date) (timeAfter (upTo59 time))) (Dated layout status weekday date (timeAfter (upTo59 time))))
         ≡ ownLayout (Dated layout status weekday date time)
     go true = refl
     go false = refl
@@ -157,27 +159,37 @@ writing-rules Unnamed rec room =
     ∙ then-by (refusalOf rec) rec (λ good. after (as6021 good) (λ r. within room (done (telegramOf false r)))) (recordRules rec) _ (record-rules rec) (unnamed rec room)
 
 -- a count of seconds, UTC seconds and the station clock
-no-date : (wrong : Bool) → refused (6 when wrong else 14) ≡ unless {A = Unit {0}} (6 when wrong else 14) tt
+no-date : (wrong sixty : Bool) → refused (6 when wrong else 14) ≡ unless {A = Unit {0}} (6 when wrong else 12 when (sixty && false) else 14) tt
 unfolding unless
-no-date true = refl
-no-date false = refl
+no-date true sixty = refl
+no-date false true = refl
+no-date false false = refl
+
+no-date-in-utc : (wrong sixty : Bool) → refused (6 when wrong else 14) ≡ unless {A = Unit {0}} (6 when wrong else 12 when (sixty && false || false) else 14) tt
+unfolding unless
+no-date-in-utc true sixty = refl
+no-date-in-utc false true = refl
+no-date-in-utc false false = refl
 
 pub count-rules : (rec : Record) → countOf rec byFirst countRules rec
-unfolding timeRefusal
+unfolding timeAloneRefusal timeAloneAllowed
 count-rules (Dated layout status weekday date time) =
     let rec = Dated layout status weekday date time in
-    unless-by (refusalOf rec) (asMarked (status .utc) (86400 * dayOf date + secondsOf time)) (countRules rec)
-    (sym (else-nothing (refusalOf rec)) ∙ behind-record rec 0 (14 givenWhen false ∷ []) refl)
-count-rules (TimeOnly layout time) = no-date (not (timeInRange time))
+    let last = 12 when noneFollows rec in
+    ap (λ o. after o (λ v. done tt)) (count-lowest-first layout status weekday date time)
+    ∙ unless-by (refusalOf rec else last) (asMarked (status .utc) (86400 * dayOf date + secondsOf time)) (countRules rec)
+    (behind-record rec last (12 givenWhen noneFollows rec ∷ 14 givenWhen false ∷ []) (sym (else-nothing last)))
+count-rules (TimeOnly layout time) =
+    ap (λ o. after o (λ v. done tt)) (time-count layout time) ∙ no-date (not (timeInRange time || sixtyBehind59 time)) (isSixty time)
 
 pub utc-rules : (rec : Record) → utcSeconds rec byFirst utcRules rec
-unfolding timeRefusal
+unfolding timeAloneRefusal timeAloneAllowed
 utc-rules (Dated layout status weekday date time) =
     let rec = Dated layout status weekday date time in
-    let before = 12 when isBeforeUtc rec in
+    let outside = 12 when (noneFollows rec || isBeforeUtc rec) in
     utc-lowest-first layout status weekday date time
-    ∙ ap (λ n. unless n tt) (behind-record rec before (12 givenWhen isBeforeUtc rec ∷ 14 givenWhen false ∷ []) (sym (else-nothing before)))
-utc-rules (TimeOnly layout time) = no-date (not (timeInRange time))
+    ∙ ap (λ n. unless n tt) (behind-record rec outside (12 givenWhen (noneFollows rec || isBeforeUtc rec) ∷ 14 givenWhen false ∷ []) (sym (else-nothing outside)))
+utc-rules (TimeOnly layout time) = no-date-in-utc (not (timeInRange time || sixtyBehind59 time)) (isSixty time)
 
 pub step-rules : (clock : Clock) → stepAnswer (stepOf clock .answer) byFirst stepRules (clock .rec)
 step-rules clock =

@@ -7,12 +7,12 @@ use native.Mathlib.Omega.{arith}
 use lib.ListN.{length, drop}
 use Rattle.refusals.specs.Refusals.{Outcome, done, refused, unless}
 use Rattle.places.specs.Places.{isDecimal, isCapital, codeValue, codeCharacter, render}
-use Rattle.calendar.specs.TimeOfDay.{timeInRange, timeRefusal}
+use Rattle.calendar.specs.TimeOfDay.{timeInRange}
 use Rattle.record.specs.declared.TimeLayout.the-variants.{T6021}
 use Rattle.record.specs.declared.Record.{Record}
 use Rattle.record.specs.declared.Record.the-variants.{Dated, TimeOnly}
 use Rattle.record.specs.declared.RecordAnswer.the-variants as answer
-use Rattle.record.specs.Rule.{refusalOf}
+use Rattle.record.specs.Rule.{timeAloneAllowed, timeAloneRefusal, refusalOf}
 use Rattle.layouts.specs.Layouts.{placesOf, layoutOf}
 use Rattle.telegram.specs.Reading.{carried, bodyRefusal, readOf}
 use Rattle.telegram.specs.Writing.{bodyBytes, telegramOf}
@@ -38,7 +38,7 @@ abbrev its-bytes : List ℕ
 its-bytes = 2 ∷ behind-stx
 
 is-good : refusalOf early ≡ 0
-unfolding timeInRange timeRefusal
+unfolding timeInRange timeAloneAllowed timeAloneRefusal
 is-good = refl
 
 written-so : telegramOf true early ≡ its-bytes
@@ -49,7 +49,7 @@ abbrev heard-it : Fed
 heard-it = record { reader = readerOf (record { held = []; fed = 10; stray = 0 }); taken = 10; heard = Event (answer.Good early) 0 10 }
 
 heard-so : feedReader freshReader its-bytes ≡ heard-it
-unfolding unless isDecimal isCapital codeValue timeInRange timeRefusal placesOf layoutOf carried bodyRefusal readOf feedReader wellFormed
+unfolding unless isDecimal isCapital codeValue timeInRange timeAloneAllowed timeAloneRefusal placesOf layoutOf carried bodyRefusal readOf feedReader wellFormed
 heard-so = refl
 
 -- the demand, of that telegram alone in one piece, for any reader that takes it whole

@@ -88,7 +88,7 @@ TheNextSecondRefuses =
 
 -- the count of a record's seconds: 5 to 8, 14
 abbrev pub CountingRefuses : Type 0
-CountingRefuses = (rec : Record) → (countOf rec refusedBy countRules rec) × (countOf rec doneOr 5 ∷ 6 ∷ 7 ∷ 8 ∷ 14 ∷ [])
+CountingRefuses = (rec : Record) → (countOf rec refusedBy countRules rec) × (countOf rec doneOr 5 ∷ 6 ∷ 7 ∷ 8 ∷ 12 ∷ 14 ∷ [])
 
 -- the season shift of any local second: 12
 abbrev pub TheSeasonShiftRefuses : Type 0

@@ -16,14 +16,16 @@ use Rattle.record.specs.declared.Record.{Record}
 use Rattle.record.specs.declared.Record.the-variants.{TimeOnly}
 use Rattle.record.specs.declared.season.Count.{Count}
 use Rattle.record.specs.Season.{secondsLater}
-use Rattle.record.specs.Rule.{refusalOf}
+use Rattle.record.specs.Rule.{refusalOf, is60}
 use Rattle.record.specs.Next.{nextSecondOf}
 use Rattle.record.specs.Utc.{countOf}
+use Rattle.record.specs.Following.{secondsOn}
 use Rattle.layouts.specs.Layouts.{placesOf, ownLayout}
 use Rattle.layouts.specs.Coding.{digitsOut}
 use Rattle.telegram.specs.declared.write.Choice.{Choice}
 use Rattle.telegram.specs.declared.write.Choice.the-variants.{Named, Unnamed}
 use Rattle.telegram.specs.Writing.{telegramOf, as6021, controlOf}
+use Rattle.clock.specs.Running.{NoStepMakesASixty}
 use Rattle.demands.specs.Programs.{reads, writes}
 use Rattle.demands.specs.Lengths.{lengthOf}
 
@@ -97,13 +99,22 @@ WrittenWithAdvanceItReadsBackAsTheNextSecond =
     (control : Bool) (rec : Record) (room : ℕ) (bytes : List ℕ) → writes (advanced control) rec room ≡ done bytes
     → reads control bytes ≡ nextSecondOf rec
 
--- The next second is one second later: of the calendar where there is a date, else of the day.
+-- The next second is one second later, of the calendar where there is a date, else of the day; but that of a second 60 has its number.
 abbrev pub TheNextSecondIsOneLater : Type 0
 TheNextSecondIsOneLater =
     (rec next : Record) (count : Count) → nextSecondOf rec ≡ done next → countOf rec ≡ done count
-    → countOf next ≡ done (secondsLater 1 count)
+    → countOf next ≡ done (secondsLater (secondsOn rec) count)
 
 abbrev pub TheNextSecondOfADayIsOneLater : Type 0
 TheNextSecondOfADayIsOneLater =
     (layout : TimeLayout) (time : Time) → Good (TimeOnly layout time)
-    → (next : Time) × (nextSecondOf (TimeOnly layout time) ≡ done (TimeOnly layout next)) × (secondsOf next ≡ (secondsOf time + 1) % 86400)
+    → (next : Time) × (nextSecondOf (TimeOnly layout time) ≡ done (TimeOnly layout next)) × (secondsOf next ≡ (secondsOf time + secondsOn (TimeOnly layout time)) % 86400)
+
+-- Document 02, b: "neither makes a 60 by itself"
+abbrev pub NoAdvanceMakesASixty : Type 0
+NoAdvanceMakesASixty =
+    (control : Bool) (rec same : Record) (room : ℕ) (bytes : List ℕ) → writes (advanced control) rec room ≡ done bytes
+    → reads control bytes ≡ done same → is60 same ≡ false
+
+abbrev pub NeitherMakesASixty : Type 0
+NeitherMakesASixty = NoAdvanceMakesASixty × NoStepMakesASixty

@@ -1,5 +1,5 @@
--- Document 01, "Refusal numbers": for each entry point its rows of the table, "given exactly when", in the order of their numbers.
-use mathlib.Core.Bool.{Bool, false, not, _&&_}
+-- Document 01, "Refusal numbers", and document 02, b: for each entry point its rows of the table, "given exactly when", in the order of their numbers.
+use mathlib.Core.Bool.{Bool, false, not, _&&_, _||_}
 use mathlib.Core.List.{List, [], _∷_, _++_, map}
 use Prim.Native.Nat.{ℕ, _+_, _*_}
 use lib.Dec.{ltb}
@@ -14,7 +14,8 @@ use Rattle.record.specs.declared.Record.{Record}
 use Rattle.record.specs.declared.Record.the-variants.{Dated, TimeOnly}
 use Rattle.record.specs.declared.season.LocalSeconds.{LocalSeconds}
 use Rattle.record.specs.Season.{seasonShift}
-use Rattle.record.specs.Rule.{statusAllowed, weekdayAllowed, weekdayAgrees, carriesDate}
+use Rattle.record.specs.Sixty.{sixtyBehind59, takesSixty}
+use Rattle.record.specs.Rule.{statusAllowed, weekdayAllowed, weekdayAgrees, carriesDate, is60}
 use Rattle.record.specs.Next.{isLastOfCalendar}
 use Rattle.layouts.specs.declared.Layout.{Layout}
 use Rattle.layouts.specs.Layouts.{placesOf, ownLayout, layoutOf}
@@ -29,15 +30,15 @@ abbrev pub dateRules : Date → List Rule
 dateRules date = 6 givenWhen not (dateInRange date) ∷ 7 givenWhen not (dayExists date) ∷ []
 
 -- a record: 5 "status or weekday not one the layout allows", 6 "out of range", 7 "no such day in that month", 8 "weekday disagrees
--- with the date"; "a time-only record is checked for its time alone"
+-- with the date"; "a time-only record is checked for its time alone". A second 60 is in range at the end of a UTC month, and alone in minute 59
 abbrev pub recordRules : Record → List Rule
 recordRules (Dated layout status weekday date time) =
     5 givenWhen not (statusAllowed layout status && weekdayAllowed weekday)
-    ∷ 6 givenWhen not (timeInRange time && dateInRange date)
+    ∷ 6 givenWhen not ((timeInRange time || takesSixty status date time) && dateInRange date)
     ∷ 7 givenWhen not (dayExists date)
     ∷ 8 givenWhen not (weekdayAgrees weekday date)
     ∷ []
-recordRules (TimeOnly layout time) = 6 givenWhen not (timeInRange time) ∷ []
+recordRules (TimeOnly layout time) = 6 givenWhen not (timeInRange time || sixtyBehind59 time) ∷ []
 
 -- the places of a row: 3 "a space, CR or LF of the layout isn't in its place", 4 "a decimal place holds no 0 to 9", 5 a status or
 -- weekday character that is none
@@ -64,7 +65,7 @@ abbrev pub readingRules : Bool → List ℕ → List Rule
 readingRules control bytes =
     1 givenWhen not (among (map (lengthOf control) sevenLayouts) (length bytes)) ∷ rulesIn control bytes (layoutOf (bodyOf control bytes))
 
--- the next second: 12 "after 31.12.2079 23:59:59"
+-- the next second: 12 "after 31.12.2079 23:59:59", and 23:59:60
 abbrev pub nextSecondRules : Record → List Rule
 nextSecondRules rec = recordRules rec ++ 12 givenWhen isLastOfCalendar rec ∷ []
 
@@ -79,22 +80,25 @@ writingRules (Named setting) rec room =
 writingRules Unnamed rec room =
     recordRules rec ++ 13 givenWhen (carriesDate rec && ltb room 16) ∷ 14 givenWhen not (carriesDate rec) ∷ []
 
--- the count of a record's seconds: 14 "a date is needed and the layout carries none"
+-- the count of a record's seconds: 12 for a second 60 that none follows, 14 "a date is needed and the layout carries none"
+abbrev pub noneFollows : Record → Bool
+noneFollows rec = is60 rec && isLastOfCalendar rec
+
 abbrev pub countRules : Record → List Rule
-countRules rec = recordRules rec ++ 14 givenWhen not (carriesDate rec) ∷ []
+countRules rec = recordRules rec ++ 12 givenWhen noneFollows rec ∷ 14 givenWhen not (carriesDate rec) ∷ []
 
 -- the season shift: 12 "the result lies outside the calendar", whose UTC seconds are 0 to 3,155,759,999
 abbrev pub shiftRules : LocalSeconds → Bool → List Rule
 shiftRules local daylight = 12 givenWhen not (inside (seasonShift daylight) (local .0) (seasonShift daylight + 3155759999)) ∷ []
 
--- UTC seconds: 12 "before 1.1.1980 00:00 UTC", where "a record marked UTC is not shifted"; a time-only record: 14
+-- UTC seconds: 12 "before 1.1.1980 00:00 UTC", where "a record marked UTC is not shifted", or as for the count; a time-only record: 14
 abbrev pub isBeforeUtc : Record → Bool
 isBeforeUtc (Dated layout status weekday date time) =
     not (status .utc) && ltb (86400 * dayOf date + secondsOf time) (seasonShift (status .daylight))
 isBeforeUtc (TimeOnly layout time) = false
 
 abbrev pub utcRules : Record → List Rule
-utcRules rec = recordRules rec ++ 12 givenWhen isBeforeUtc rec ∷ 14 givenWhen not (carriesDate rec) ∷ []
+utcRules rec = recordRules rec ++ 12 givenWhen (noneFollows rec || isBeforeUtc rec) ∷ 14 givenWhen not (carriesDate rec) ∷ []
 
 -- a step of the station clock: the next second's, and "a time-only record gives 14 here"
 abbrev pub stepRules : Record → List Rule

@@ -62,4 +62,4 @@ last-utc = no-follower-no-number lastSixty refl last-next .1
 pub sixties-as-printed : SixtiesAreAsPrinted
 unfolding unless numberedAs momentOf dateRefusal dayNumber secondOfDay timeAllowed timeAloneAllowed timeAloneRefusal isLeap monthLength monthInRange dateInRange dayExists monthStart dayOf timeInRange timeRefusal secondsOf plainUtc tableCanSay statusAllowed weekdayAllowed weekdayAgrees datedRefusal seasonShift toUtc sixtyBehind59 takesSixty upTo59 seek monthHolding dateAt dayAfter isLastDay timeAfter isLastSecond nextSecondOf
 sixties-as-printed =
-    (refl, (refl, (refl, (refl, (refl, (refl, (refl, (refl, (refl, (refl, (refl, (refl, (refl, (refl, (refl, (refl, (refl, (refl, (refl, (refl, (refl, (refl, (refl, (refl, (refl, (refl, (refl, (refl, (refl, (refl, (last-good, (last-utc, (last-count, (last-next, tt))))))))))))))))))))))))))))))))))
+    (refl, (refl, (refl, (refl, (refl, (refl, (refl, (refl, (refl, (refl, (refl, (refl, (refl, (refl, (refl, (refl, (refl, (refl, (refl, (refl, (refl, (refl, (refl, (refl, (refl, (refl, (refl, (refl, (refl, (refl, (refl, (last-good, (last-utc, (last-count, (last-next, tt)))))))))))))))))))))))))))))))))))

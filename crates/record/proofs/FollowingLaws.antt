@@ -17,17 +17,17 @@ use Rattle.record.specs.declared.Record.the-variants.{Dated, TimeOnly}
 use Rattle.record.specs.declared.season.UtcSeconds.{UtcSeconds}
 use Rattle.record.specs.declared.season.Count.{Count}
 use Rattle.record.specs.declared.season.Count.the-variants.{Local, Utc}
-use Rattle.record.specs.Season.{secondsIn, calendarSeconds, seasonShift, isOutside, toUtc}
+use Rattle.record.specs.Season.{secondsLater, secondsIn, calendarSeconds, seasonShift, isOutside, toUtc}
 use Rattle.record.specs.Moment.{inUtc}
 use Rattle.record.specs.Sixty.{isSixty, at59, upTo59}
-use Rattle.record.specs.Rule.{refusalOf}
+use Rattle.record.specs.Rule.{refusalOf, is60}
 use Rattle.record.specs.Next.{weekdayAfter, recordAfter, isLastOfCalendar, nextSecondOf}
 use Rattle.record.specs.Utc.{countOf, utcSeconds}
-use Rattle.record.specs.Following.{ASixtySharesItsFollowersNumber, OneSixtyHasNoFollower, WithoutAFollowerItHasNoNumber, NoCountIsBehindTheCalendar}
+use Rattle.record.specs.Following.{TheNextSecondIsOneLater, ASixtySharesItsFollowersNumber, OneSixtyHasNoFollower, WithoutAFollowerItHasNoNumber, NoCountIsBehindTheCalendar}
 use Rattle.record.proofs.SixtyLaws.{last-number, marked-or-local}
 use Rattle.record.proofs.RuleLaws.{good, sixty-taken}
 use Rattle.record.proofs.NextLaws.{followed, next-good}
-use Rattle.record.proofs.UtcLaws.{done-after, followers-number, next-number, count-within, utc-refused}
+use Rattle.record.proofs.UtcLaws.{done-after, followers-number, next-number, plain-later, none-later, count-within, utc-refused}
 
 -- what follows has the same status: UTC seconds go by the count alone
 utc-by-count : (rec next : Record) → nextSecondOf rec ≡ done next → countOf rec ≡ countOf next → utcSeconds rec ≡ utcSeconds next
@@ -52,6 +52,13 @@ pub sixty-shares : ASixtySharesItsFollowersNumber
 sixty-shares rec next sixty e =
     let same = followers-number rec (done next) sixty e ∙ sym (next-number rec next e) in
     (same, utc-by-count rec next e same)
+
+pub next-is-later : TheNextSecondIsOneLater
+next-is-later rec next count e counted = go (is60 rec) refl
+  where
+    go : (sixty : Bool) → is60 rec ≡ sixty → countOf next ≡ done (secondsLater (cond sixty 0 1) count)
+    go true sixty = sym (sixty-shares rec next sixty e .0) ∙ counted ∙ ap done (sym (none-later count))
+    go false plain = plain-later rec next count plain e counted
 
 pub no-follower-no-number : WithoutAFollowerItHasNoNumber
 no-follower-no-number rec sixty e =

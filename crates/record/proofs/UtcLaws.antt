@@ -27,7 +27,6 @@ use Rattle.record.specs.Sixty.{isSixty, at59, upTo59}
 use Rattle.record.specs.Rule.{datedRefusal, timeAloneRefusal, refusalOf, is60}
 use Rattle.record.specs.Next.{recordAfter, isLastOfCalendar, nextSecondOf}
 use Rattle.record.specs.Utc.{numberedAs, ownSeconds, countOf, utcSeconds}
-use Rattle.record.specs.Following.{TheNextSecondIsOneLater}
 use Rattle.record.proofs.RuleLaws.{good, good-counted}
 use Rattle.record.proofs.NextLaws.{moment-is, After, dated-after, followed, dated-follows, next-good, next-no-sixty}
 
@@ -218,17 +217,17 @@ had-count (Dated layout status weekday date time) utc e =
     (had .0, had .1)
 had-count (TimeOnly layout time) utc e = let z : _≡_ {A = ℕ} 0 1 = cc in absurd (omega arith)
 
--- the next second of a record with a date is one second later, local or UTC as it was, and that of a second 60 has its number
-pub next-is-later : TheNextSecondIsOneLater
-next-is-later (Dated layout status weekday date time) next count plain e f =
+-- the next second of a record with a date, but a second 60, is one second later, local or UTC as it was
+pub plain-later : (rec next : Record) (count : Count) → is60 rec ≡ false → nextSecondOf rec ≡ done next → countOf rec ≡ done count
+    → countOf next ≡ done (secondsLater 1 count)
+plain-later (Dated layout status weekday date time) next count plain e f =
     let a = dated-follows layout status weekday date time next e in
-    let p = placed (Dated layout status weekday date time) count f in
     let c = plain-counted layout status weekday date time (followed _ next e .0) plain in
     let here : asMarked (status .utc) (86400 * dayOf date + secondsOf time) ≡ count = let same = sym (c .counts) ∙ f in cc in
     next-number (Dated layout status weekday date time) next e
     ∙ (rw (plain-time time plain) at (a .second))
     ∙ ap done (marked-later (status .utc) (86400 * dayOf date + secondsOf time) 1 ∙ ap (secondsLater 1) here)
-next-is-later (TimeOnly layout time) next count plain e f = absurd (time-has-no-count layout time count f)
+plain-later (TimeOnly layout time) next count plain e f = absurd (time-has-no-count layout time count f)
 
 neither : (a b : Bool) → (a || b) ≡ false → (a ≡ false) × (b ≡ false)
 neither true b e = let z : _≡_ {A = ℕ} 0 1 = cc in absurd (omega arith)

@@ -76,48 +76,49 @@ printedRecords =
     ∷ refusalIs (Dated L6021 standardTime 7 (date 1996 1 3) (time 12 34 56)) 8
     ∷ []
 
--- Second 60, at the leap seconds that ended June 1981, 1989 and June 1997 in UTC, and beside them
+-- Second 60, at the leap seconds that ended June 1981 and December 1987 in UTC, and beside them
 abbrev pub printedSixties : List RecordRow
 printedSixties =
     -- "accept 60 when the minute is 59 and the same record with second 59 is the last second of a UTC month"
-    refusalIs (Dated L6021 standardTime 1 (date 1990 1 1) (time 0 59 60)) 0
-    ∷ refusalIs (Dated L2000 daylightTime 2 (date 1997 7 1) (time 1 59 60)) 0
+    refusalIs (Dated L6021 standardTime 5 (date 1988 1 1) (time 0 59 60)) 0
+    ∷ refusalIs (Dated L2000 daylightTime 3 (date 1981 7 1) (time 1 59 60)) 0
     ∷ refusalIs (Dated L5050 markedUtc 2 (date 1981 6 30) (time 23 59 60)) 0
     ∷ refusalIs (Dated L6021 (statusOf Radio true true false) 2 (date 1981 6 30) (time 23 59 60)) 0
+    ∷ refusalIs (Dated L5500 markedUtc 5 (date 1980 2 29) (time 23 59 60)) 0
     -- by the record's own season bit and mark
-    ∷ refusalIs (Dated L6021 daylightTime 1 (date 1990 1 1) (time 0 59 60)) 6
-    ∷ refusalIs (Dated L6021 standardTime 2 (date 1997 7 1) (time 1 59 60)) 6
-    ∷ refusalIs (Dated L6021 markedUtc 1 (date 1990 1 1) (time 0 59 60)) 6
+    ∷ refusalIs (Dated L6021 standardTime 3 (date 1981 7 1) (time 1 59 60)) 6
+    ∷ refusalIs (Dated L6021 daylightTime 3 (date 1981 7 1) (time 0 59 60)) 6
+    ∷ refusalIs (Dated L6021 markedUtc 3 (date 1981 7 1) (time 0 59 60)) 6
     ∷ refusalIs (Dated L6021 standardTime 2 (date 1981 6 30) (time 23 59 60)) 6
     -- "6 is still given for every other 60 and above"
-    ∷ refusalIs (Dated L6021 standardTime 1 (date 1990 1 1) (time 0 58 60)) 6
-    ∷ refusalIs (Dated L6021 standardTime 1 (date 1990 1 1) (time 0 59 61)) 6
-    ∷ refusalIs (Dated L6021 standardTime 2 (date 1990 1 2) (time 0 59 60)) 6
-    ∷ refusalIs (Dated L6021 markedUtc 1 (date 1981 6 29) (time 23 59 60)) 6
+    ∷ refusalIs (Dated L6021 standardTime 3 (date 1981 7 1) (time 0 58 60)) 6
+    ∷ refusalIs (Dated L6021 standardTime 3 (date 1981 7 1) (time 0 59 61)) 6
+    ∷ refusalIs (Dated L6021 standardTime 4 (date 1981 7 2) (time 0 59 60)) 6
+    ∷ refusalIs (Dated L6021 markedUtc 4 (date 1980 2 28) (time 23 59 60)) 6
     -- "where that UTC moment lies before the calendar, 60 stays refused"
     ∷ refusalIs (Dated L6021 standardTime 2 (date 1980 1 1) (time 0 59 60)) 6
     ∷ refusalIs (Dated L6021 daylightTime 2 (date 1980 1 1) (time 1 59 60)) 6
     -- 6 before 7, 5 before 6, and "its weekday aside": 8
     ∷ refusalIs (Dated L6021 markedUtc 3 (date 1981 6 31) (time 23 59 60)) 6
-    ∷ refusalIs (Dated L5500 (statusOf High false false false) 1 (date 1990 1 1) (time 0 59 60)) 5
-    ∷ refusalIs (Dated L6021 standardTime 2 (date 1990 1 1) (time 0 59 60)) 8
+    ∷ refusalIs (Dated L5500 (statusOf High false false false) 3 (date 1981 7 1) (time 0 59 60)) 5
+    ∷ refusalIs (Dated L6021 standardTime 4 (date 1981 7 1) (time 0 59 60)) 8
     -- "in time-only layouts when the minute is 59"
     ∷ refusalIs (TimeOnly T6021 (time 12 59 60)) 0
     ∷ refusalIs (TimeOnly T6021 (time 12 58 60)) 6
     ∷ refusalIs (TimeOnly T6021 (time 12 59 61)) 6
     ∷ refusalIs (TimeOnly T6021 (time 24 59 60)) 6
     -- "the number of the second that follows it"
-    ∷ utcIs (Dated L6021 standardTime 1 (date 1990 1 1) (time 0 59 60)) (done (record { 0 = 315619200 }))
-    ∷ utcIs (Dated L6021 daylightTime 2 (date 1997 7 1) (time 1 59 60)) (done (record { 0 = 552182400 }))
+    ∷ utcIs (Dated L6021 standardTime 5 (date 1988 1 1) (time 0 59 60)) (done (record { 0 = 252460800 }))
+    ∷ utcIs (Dated L6021 daylightTime 3 (date 1981 7 1) (time 1 59 60)) (done (record { 0 = 47260800 }))
     ∷ utcIs (Dated L6021 markedUtc 2 (date 1981 6 30) (time 23 59 60)) (done (record { 0 = 47260800 }))
-    ∷ countIs (Dated L6021 standardTime 1 (date 1990 1 1) (time 0 59 60)) (done (Local (record { 0 = 315622800 })))
+    ∷ countIs (Dated L6021 daylightTime 3 (date 1981 7 1) (time 1 59 60)) (done (Local (record { 0 = 47268000 })))
     ∷ utcIs (TimeOnly T6021 (time 12 59 60)) (refused 14)
     -- "go from 60 to 00"
-    ∷ nextIs (Dated L6021 standardTime 1 (date 1990 1 1) (time 0 59 60)) (done (Dated L6021 standardTime 1 (date 1990 1 1) (time 1 0 0)))
+    ∷ nextIs (Dated L6021 daylightTime 3 (date 1981 7 1) (time 1 59 60)) (done (Dated L6021 daylightTime 3 (date 1981 7 1) (time 2 0 0)))
     ∷ nextIs (Dated L6021 markedUtc 2 (date 1981 6 30) (time 23 59 60)) (done (Dated L6021 markedUtc 3 (date 1981 7 1) (time 0 0 0)))
     ∷ nextIs (TimeOnly T6021 (time 23 59 60)) (done (TimeOnly T6021 (time 0 0 0)))
     -- "neither makes a 60 by itself"
-    ∷ nextIs (Dated L6021 standardTime 1 (date 1990 1 1) (time 0 59 59)) (done (Dated L6021 standardTime 1 (date 1990 1 1) (time 1 0 0)))
+    ∷ nextIs (Dated L6021 markedUtc 2 (date 1981 6 30) (time 23 59 59)) (done (Dated L6021 markedUtc 3 (date 1981 7 1) (time 0 0 0)))
     -- "12 if there is none", "with 12 after 31.12.2079 23:59:60 too"
     ∷ refusalIs (Dated L6021 markedUtc 7 (date 2079 12 31) (time 23 59 60)) 0
     ∷ utcIs (Dated L6021 markedUtc 7 (date 2079 12 31) (time 23 59 60)) (refused 12)

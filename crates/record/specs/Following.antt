@@ -1,5 +1,5 @@
 -- Document 02, b, "Second 60": what follows one second and another, for every record.
-use mathlib.Core.Bool.{true, false}
+use mathlib.Core.Bool.{true, false, cond}
 use mathlib.Core.Path.{_≡_}
 use Prim.Native.Nat.{ℕ, _≤_}
 use Rattle.refusals.specs.Refusals.{done, refused}
@@ -20,10 +20,13 @@ abbrev pub NothingMakesASixty : Type 0
 NothingMakesASixty = (rec next : Record) → nextSecondOf rec ≡ done next → is60 next ≡ false
 
 -- the next second is one later, but that of a 60, whose number its follower shares
+abbrev pub secondsOn : Record → ℕ
+secondsOn rec = cond (is60 rec) 0 1
+
 abbrev pub TheNextSecondIsOneLater : Type 0
 TheNextSecondIsOneLater =
-    (rec next : Record) (count : Count) → is60 rec ≡ false → nextSecondOf rec ≡ done next → countOf rec ≡ done count
-    → countOf next ≡ done (secondsLater 1 count)
+    (rec next : Record) (count : Count) → nextSecondOf rec ≡ done next → countOf rec ≡ done count
+    → countOf next ≡ done (secondsLater (secondsOn rec) count)
 
 abbrev pub ASixtySharesItsFollowersNumber : Type 0
 ASixtySharesItsFollowersNumber =
