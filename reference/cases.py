@@ -1,6 +1,7 @@
 """The cases of the program `test_cases`, and what it should print for each."""
 
 import collections
+import itertools
 import random
 import sys
 
@@ -17,6 +18,7 @@ import parameter
 import places
 import records
 import request_letters
+import second_60
 import telegrams
 from days import Date, Time
 from encoding import (LAYOUT_NUMBERS, answer_numbers, case, count_numbers, date_bytes, event_numbers, layout_number, leitch_bytes,
@@ -25,7 +27,7 @@ from encoding import (LAYOUT_NUMBERS, answer_numbers, case, count_numbers, date_
 from layouts import LAYOUTS, STATUS_AS_5500, STATUS_AS_6021, TIME_ONLY, length
 from places import CODE, DECIMAL, FIXED, SLOTS, Place
 from records import Dated, LocalSeconds, TimeOnly
-from refusals import outcome
+from refusals import DECIMAL_PLACE, FIXED_PLACE, LENGTH, outcome
 from status import status_allowed, weekday_allowed
 from telegrams import Setting
 
@@ -40,7 +42,7 @@ RECORD = {5, 6, 7, 8}
 # Each entry point by its letter, and the refusals that documents 01 and 02 give to it; each has to occur.
 OWN_REFUSALS = {
     "D": {6, 7}, "d": {12}, "n": {6, 7, 12}, "M": {6}, "T": {6}, "t": {6},
-    "J": RECORD, "B": set(), "N": RECORD | {12}, "C": RECORD | {14}, "Z": {12}, "U": RECORD | {12, 14},
+    "J": RECORD, "B": set(), "N": RECORD | {12}, "C": RECORD | {12, 14}, "Z": {12}, "U": RECORD | {12, 14},
     "K": RECORD | {12, 14}, "k": RECORD | {12, 14},
     "P": set(), "Q": {16},
     "A": {3, 4, 5}, "a": set(), "O": set(), "L": {1}, "I": set(), "i": set(),
@@ -52,12 +54,35 @@ OWN_REFUSALS = {
 }
 
 
+def dated(*numbers):
+    """Outcomes of a second 60 or above with a date; 0 is for an accepted one."""
+    return {("dated", number) for number in numbers}
+
+
+def time_only(*numbers):
+    """The same without a date."""
+    return {("time-only", number) for number in numbers}
+
+
+# Each entry point that can get a second 60 or above, and what can come of it there; each has to occur. 7 is in none: such a second
+# is good or 6 before the day is looked for.
+SECOND_60 = {
+    "J": dated(0, 5, 6, 8) | time_only(0, 6), "N": dated(0, 5, 6, 8, 12) | time_only(0, 6),
+    **{letter: dated(0, 5, 6, 8, 12) | time_only(6, 14) for letter in "CUKk"},
+    **{letter: dated(0, 5, 6, 8) | time_only(0, 6) for letter in "RrFV"},
+    **{letter: dated(0, 5, 6, 8, 12, 13) | time_only(0, 6, 13, 14) for letter in "WS"},
+    "i": dated(0) | time_only(0), "G": dated(0, 5, 6, 8, 13) | time_only(0, 6, 13),
+    "l": dated(5, 6), "e": dated(5, 6),
+}
+
+
 class Seen:
-    """How many cases each entry point had, and which refusals have occurred there."""
+    """How many cases each entry point had, which refusals have occurred there, and what has come of seconds 60 and above."""
 
     def __init__(self):
         self.cases = collections.Counter()
         self.numbers = {letter: set() for letter in OWN_REFUSALS}
+        self.second_60 = {letter: set() for letter in SECOND_60}
 
     def note(self, letter, refusal):
         self.cases[letter] += 1
@@ -68,12 +93,33 @@ class Seen:
         if refusal is not None:
             self.numbers[letter].add(refusal)
 
+    def record(self, letter, record, refusal):
+        """A record that a case is about, and what came of it."""
+        self.second_60[letter] |= {second_60.in_record(record, refusal)} - {None}
+
+    def telegram(self, letter, telegram, control, refusal):
+        """A telegram that a case is about, and what came of it."""
+        self.second_60[letter] |= {second_60.in_telegram(telegram, control, refusal)} - {None}
+
+    def events(self, letter, state, piece, events):
+        """The telegrams of a piece's events, of which the state may hold the first bytes."""
+        there = line.held_of(state) + piece
+        for event in events:
+            start = (event.start - state.start) % line.WRAP
+            refusal = event.outcome if isinstance(event.outcome, int) else None
+            self.more(letter, refusal)
+            self.telegram(letter, there[start:start + event.length], True, refusal)
+
     def check(self):
-        """Fails where an entry point has no case, where a refusal never occurred, or one that the entry point does not give did."""
+        """Fails where an entry point has no case, where a refusal never occurred, or one that the entry point does not give did; and
+        where something that can come of a second 60 never did, or something that cannot did."""
         for letter, wanted in OWN_REFUSALS.items():
             if not self.cases[letter] or self.numbers[letter] != wanted:
                 raise AssertionError(f"case {letter}: {self.cases[letter]} cases, refusals {sorted(self.numbers[letter])}, "
                                      f"wanted {sorted(wanted)}")
+        for letter, wanted in SECOND_60.items():
+            if self.second_60[letter] != wanted:
+                raise AssertionError(f"case {letter}: second 60 {sorted(self.second_60[letter])}, wanted {sorted(wanted)}")
 
 
 SEEN = Seen()
@@ -99,11 +145,20 @@ def one(value):
     return [value]
 
 
-def in_buffer(letter, given, room, size, write):
-    """A case that writes into the first bytes of a buffer, which is printed whole."""
+def of_record(letter, record, function, numbers):
+    """A case whose outcome is that of a record."""
+    answer = outcome(function, record)
+    SEEN.record(letter, record, answer[1])
+    return answered(letter, record_bytes(record), answer, numbers)
+
+
+def in_buffer(letter, given, room, size, write, record=None):
+    """A case that writes into the first bytes of a buffer, which is printed whole; of a record or an answer, where there is one."""
     buffer = bytearray([UNTOUCHED] * room)
     used, refusal = outcome(write, buffer)
     SEEN.note(letter, refusal)
+    if record is not None:
+        SEEN.record(letter, record, refusal)
     whole = list(buffer) + [UNTOUCHED] * (size - room)
     return case(letter, given), printed(answer_numbers(used, refusal, one) + whole)
 
@@ -144,7 +199,7 @@ def next_time_case(time):
 
 def rule_case(record):
     """A record to judge: its refusal, or 0."""
-    return answered("J", record_bytes(record), outcome(records.check_record, record), lambda _: [])
+    return of_record("J", record, records.check_record, lambda _: [])
 
 
 def table_case(layout):
@@ -154,12 +209,12 @@ def table_case(layout):
 
 def next_case(record):
     """A record to advance by a second."""
-    return answered("N", record_bytes(record), outcome(records.next_second, record), record_numbers)
+    return of_record("N", record, records.next_second, record_numbers)
 
 
 def count_case(record):
     """A record whose own count of seconds is wanted."""
-    return answered("C", record_bytes(record), outcome(records.count_of, record), count_numbers)
+    return of_record("C", record, records.count_of, count_numbers)
 
 
 def shift_case(local, daylight):
@@ -170,13 +225,14 @@ def shift_case(local, daylight):
 
 def utc_case(record):
     """A record to put in UTC seconds."""
-    return answered("U", record_bytes(record), outcome(records.utc_seconds, record), lambda seconds: [seconds.count])
+    return of_record("U", record, records.utc_seconds, lambda seconds: [seconds.count])
 
 
 def step_case(letter, record):
     """A clock to step: what it answers, and what it then shows."""
     later, refusal = outcome(records.step_clock, record)
     SEEN.note(letter, refusal)
+    SEEN.record(letter, record, refusal)
     left = record if later is None else later
     return case(letter, record_bytes(record)), printed([refusal or 0] + record_numbers(left))
 
@@ -224,6 +280,7 @@ def digits_in_case(layout, digits):
 
 def digits_out_case(record):
     """A record whose digits are wanted."""
+    SEEN.record("i", record, None)
     return told("i", record_bytes(record), places.digits_of(record))
 
 
@@ -231,13 +288,15 @@ def digits_out_case(record):
 
 def read_case(telegram, control):
     """A telegram to read."""
-    return answered("R" if control else "r", telegram, outcome(telegrams.read_telegram, telegram, control), record_numbers)
+    letter, answer = "R" if control else "r", outcome(telegrams.read_telegram, telegram, control)
+    SEEN.telegram(letter, telegram, control, answer[1])
+    return answered(letter, telegram, answer, record_numbers)
 
 
 def write_case(record, setting, room):
     """A record to write into a buffer of so many bytes."""
     given = bytes([setting_number(setting), room]) + record_bytes(record)
-    return in_buffer("W", given, room, ONE, lambda buffer: telegrams.write_telegram(record, buffer, setting))
+    return in_buffer("W", given, room, ONE, lambda buffer: telegrams.write_telegram(record, buffer, setting), record)
 
 
 def several_case(some, setting, room):
@@ -245,6 +304,8 @@ def several_case(some, setting, room):
     buffer = bytearray([UNTOUCHED] * room)
     written = telegrams.write_telegrams(some, buffer, setting)
     SEEN.note("S", written.refusal)
+    for number, record in enumerate(some[:written.stand + 1]):
+        SEEN.record("S", record, written.refusal if number == written.stand else None)
     whole = list(buffer) + [UNTOUCHED] * (MANY - room)
     given = case("S", bytes([setting_number(setting), room]) + b"".join(record_bytes(record) for record in some))
     return given, printed([written.stand, written.used, written.refusal or 0] + whole)
@@ -269,8 +330,7 @@ def feed_case(state, piece):
     given = case("F", state_bytes(state) + piece)
     if refusal is not None:
         return given, printed([0, 2, refusal] + state_numbers(state))
-    if fed.event is not None and isinstance(fed.event.outcome, int):
-        SEEN.more("F", fed.event.outcome)
+    SEEN.events("F", state, piece, [fed.event] if fed.event else [])
     return given, printed([fed.taken] + event_numbers(fed.event) + state_numbers(fed.state))
 
 
@@ -281,9 +341,9 @@ def use_up_case(state, piece):
     given = case("V", state_bytes(state) + piece)
     if refusal is not None:
         return given, printed([refusal, 0, 0] + state_numbers(state))
+    SEEN.events("V", state, piece, passed.events)
     numbers = [0, passed.taken, len(passed.events)]
     for event in passed.events:
-        SEEN.more("V", event.outcome if isinstance(event.outcome, int) else None)
         numbers += event_numbers(event)
     return given, printed(numbers + state_numbers(passed.state))
 
@@ -311,7 +371,7 @@ def row_case(start, answer, room):
     handed = bytes([answer]) if isinstance(answer, int) else b"\0" + record_bytes(answer)
     event = line.Event(start, 0, answer)
     given = start.to_bytes(4, "big") + bytes([room]) + handed
-    return in_buffer("G", given, room, ROW, lambda buffer: listing.write_row(event, buffer))
+    return in_buffer("G", given, room, ROW, lambda buffer: listing.write_row(event, buffer), None if isinstance(answer, int) else answer)
 
 
 def stray_case(stray, room):
@@ -328,13 +388,16 @@ def day_of_year_case(date):
 
 def leitch_read_case(text):
     """Bytes to read as a Leitch answer."""
-    return answered("l", text, outcome(leitch.read_answer, text), list)
+    answer = outcome(leitch.read_answer, text)
+    if answer[1] not in (LENGTH, FIXED_PLACE, DECIMAL_PLACE):
+        SEEN.record("l", leitch.answer_of(text), answer[1])
+    return answered("l", text, answer, list)
 
 
 def leitch_write_case(answer, room):
     """A Leitch answer to write into a buffer of so many bytes."""
     given = bytes([room]) + leitch_bytes(answer)
-    return in_buffer("e", given, room, ONE, lambda buffer: leitch.write_answer(answer, buffer))
+    return in_buffer("e", given, room, ONE, lambda buffer: leitch.write_answer(answer, buffer), answer)
 
 
 def request_case(text):
@@ -648,6 +711,72 @@ def leitch_and_request_cases(dice):
         yield request_case(text)
 
 
+# --- second 60 ---
+
+def second_60_cases(dice):
+    """Good ones at every entry point that takes a record or a telegram; bad ones to judge, and at others in turn; both by dice."""
+    for number, record in enumerate(second_60.good_by_hand()):
+        yield from of_every_kind(record)
+        yield digits_out_case(record)
+        yield digits_in_case(record.layout, places.digits_of(record))
+        yield spelled_case(record, True)
+        yield spelled_case(record, False)
+        yield write_case(record, SETTINGS[number % len(SETTINGS)], ONE)
+        if number % 3 == 0:
+            yield row_case(COUNTS[number % len(COUNTS)], record, ROW)
+    others = itertools.cycle([next_case, count_case, utc_case, clock_case("K"), clock_case("k"), any_write(dice), any_row(dice)])
+    for _, record in second_60.bad_by_hand():
+        yield rule_case(record)
+        yield next(others)(record)
+        if second_60.can_be_shown(record):
+            yield spelled_case(record, dice.random() < 0.5)
+    for record in [second_60.any_by_dice(dice) for _ in range(150)]:
+        yield from of_every_kind(record)
+        yield any_write(dice)(record)
+        yield any_row(dice)(record)
+    for _ in range(150):
+        control = dice.random() < 0.5
+        yield read_case(second_60.some_telegram(dice, control), control)
+        yield feed_case(line.fresh(), second_60.some_telegram(dice, True))
+
+
+def second_60_on_lines(dice):
+    """Several written one behind another, and pieces with telegrams of them, also behind a state that holds the first bytes."""
+    for _ in range(120):
+        some = [second_60.any_by_dice(dice) for _ in range(dice.randrange(1, 4))]
+        yield several_case([second_60.good_by_dice(dice), *some], dice.choice(SETTINGS), dice.choice([MANY, dice.randrange(MANY + 1)]))
+    for _ in range(100):
+        piece = making.random_line(dice, second_60.some_telegram)[:300]
+        yield use_up_case(line.fresh(), piece)
+        telegram = second_60.some_telegram(dice, True)
+        cut = dice.randrange(1, 9)
+        yield use_up_case(line.with_held(telegram[:cut], dice.randrange(2 ** 32), 0), telegram[cut:] + piece[:50])
+
+
+def of_every_kind(record):
+    """A record judged, advanced, counted and stepped."""
+    return [rule_case(record), next_case(record), count_case(record), utc_case(record), step_case("K", record), step_case("k", record)]
+
+
+def spelled_case(record, control):
+    """The telegram that spells a record, to read."""
+    return read_case(telegrams.telegram_of(record, control), control)
+
+
+def clock_case(letter):
+    return lambda record: step_case(letter, record)
+
+
+def any_write(dice):
+    """Writes with any setting, into a buffer that is mostly long enough."""
+    return lambda record: write_case(record, dice.choice(SETTINGS), dice.choice([ONE, ONE, dice.randrange(ONE + 1)]))
+
+
+def any_row(dice):
+    """Rows in a buffer that is mostly long enough."""
+    return lambda record: row_case(dice.choice(COUNTS), record, dice.choice([ROW, ROW, dice.randrange(ROW + 1)]))
+
+
 def all_cases(seed=SEED):
     """Every case, in the order in which the program gets them."""
     dice = random.Random(seed)
@@ -667,3 +796,5 @@ def all_cases(seed=SEED):
     yield from row_cases(dice)
     yield from other_row_cases(dice)
     yield from leitch_and_request_cases(dice)
+    yield from second_60_cases(dice)
+    yield from second_60_on_lines(dice)

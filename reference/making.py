@@ -98,11 +98,11 @@ def some_telegram(dice, control):
 
 # --- lines ---
 
-def random_line(dice):
-    """Telegrams with bytes between them; now and then a start with rubbish behind it."""
+def random_line(dice, some=some_telegram):
+    """Telegrams of some kind with bytes between them; now and then a start with rubbish behind it."""
     parts = []
     for _ in range(dice.randrange(8)):
-        telegram = some_telegram(dice, dice.random() < 0.9)
+        telegram = some(dice, dice.random() < 0.9)
         if dice.random() < 0.1:
             telegram = STX + dice.randbytes(dice.randrange(30))
         parts.append(telegram)

@@ -11,11 +11,14 @@ import days
 from days import Date, Time
 from layouts import TIME_ONLY
 from refusals import (CALENDAR, NO_DATE, NO_SUCH_DAY, RANGE, STATUS_OR_WEEKDAY, WEEKDAY,
-                      Refused, check)
+                      Refused, check, outcome)
 from status import Flags, flags_allowed
 
 STANDARD_SHIFT = 3600
 DAYLIGHT_SHIFT = 7200
+
+# The last second of each UTC month: the one before the next month begins, or before the calendar ends.
+LAST_SECONDS = frozenset(days.SECONDS_PER_DAY * start - 1 for start in [*days.MONTH_STARTS[1:], days.DAYS])
 
 
 class Dated(NamedTuple):
@@ -72,6 +75,47 @@ def flags_of(record):
     return Flags(record.reception, record.daylight, record.announced, record.utc)
 
 
+# --- local seconds and UTC seconds ---
+
+def seconds_shown(record):
+    """86,400 times the day number plus the second of the day: UTC seconds of a record marked UTC, else local seconds. Status and
+    weekday are not looked at; 6 and 7 where the calendar or the day has no such date or time."""
+    count = (days.SECONDS_PER_DAY * days.day_number(date_of(record))
+             + days.second_of_day(time_of(record)))
+    return UtcSeconds(count) if record.utc else LocalSeconds(count)
+
+
+def to_utc(local, daylight):
+    """The season's shift, the only way from local to UTC; 12 where the calendar does not reach."""
+    count = local.count - (DAYLIGHT_SHIFT if daylight else STANDARD_SHIFT)
+    if not 0 <= count < days.SECONDS_PER_DAY * days.DAYS:
+        raise Refused(CALENDAR)
+    return UtcSeconds(count)
+
+
+def as_utc(count, daylight):
+    """Either count in UTC; a count of UTC seconds is not shifted, whatever the season."""
+    return count if isinstance(count, UtcSeconds) else to_utc(count, daylight)
+
+
+# --- second 60 ---
+
+def ends_a_utc_month(record):
+    """Whether a record, its weekday aside, is the last second of a UTC month. It is not where the calendar has no such date or time,
+    nor where its UTC second lies before the calendar."""
+    seconds, _ = outcome(lambda: as_utc(seconds_shown(record), record.daylight))
+    return seconds is not None and seconds.count in LAST_SECONDS
+
+
+def may_be_60(record):
+    """Whether a record of second 60 has a second 60: its minute is 59, and the same record with second 59 ends a UTC month, or has a
+    good hour where there is no date."""
+    if record.minute != 59:
+        return False
+    before = record._replace(second=59)
+    return not days.time_out_of_range(time_of(before)) if is_time_only(record) else ends_a_utc_month(before)
+
+
 # --- the one refusal rule of a record ---
 
 def status_not_allowed(record):
@@ -85,7 +129,9 @@ def weekday_not_allowed(record):
 
 
 def out_of_range(record):
-    """Condition 6: the time, and the date where there is one."""
+    """Condition 6: the time, and the date where there is one. A second 60 out of its place is out of range, whatever the date."""
+    if record.second == 60:
+        return not may_be_60(record)
     if days.time_out_of_range(time_of(record)):
         return True
     return not is_time_only(record) and days.date_out_of_range(date_of(record))
@@ -120,10 +166,11 @@ def check_record(record):
 def next_second(record):
     """The record of the next second, date and weekday included; 5 to 8, then 12.
 
-    Season and status stay. A time-only record goes from 23:59:59 to 00:00:00.
+    Season and status stay. A time-only record goes from 23:59:59 to 00:00:00. Behind a second 60 comes what comes behind the 59
+    before it, so that nothing makes a 60.
     """
     check_record(record)
-    time, midnight = days.next_second(time_of(record))
+    time, midnight = days.next_second(time_of(record)._replace(second=min(record.second, 59)))
     later = record._replace(hour=time.hour, minute=time.minute, second=time.second)
     if is_time_only(record) or not midnight:
         return later
@@ -143,28 +190,17 @@ def step_clock(record):
     return next_second(record)
 
 
-# --- UTC seconds ---
+# --- the seconds of a record ---
 
 def count_of(record):
-    """86,400 times the day number plus the second of the day: UTC seconds of a record marked
-    UTC, else local seconds. 5 to 8, then 14."""
+    """The seconds that a record shows, UTC seconds where it is marked UTC, else local seconds. A second 60 has the count of the second
+    that follows it. 5 to 8, then 12 where none follows, then 14."""
     check_record(record)
     if is_time_only(record):
         raise Refused(NO_DATE)
-    count = (days.SECONDS_PER_DAY * days.day_number(date_of(record))
-             + days.second_of_day(time_of(record)))
-    return UtcSeconds(count) if record.utc else LocalSeconds(count)
-
-
-def to_utc(local, daylight):
-    """The season's shift, the only way from local to UTC; 12 where the calendar does not reach."""
-    count = local.count - (DAYLIGHT_SHIFT if daylight else STANDARD_SHIFT)
-    if not 0 <= count < days.SECONDS_PER_DAY * days.DAYS:
-        raise Refused(CALENDAR)
-    return UtcSeconds(count)
+    return seconds_shown(next_second(record) if record.second == 60 else record)
 
 
 def utc_seconds(record):
     """UTC seconds of a record; 5 to 8, then 12, then 14. A record marked UTC is not shifted."""
-    count = count_of(record)
-    return count if isinstance(count, UtcSeconds) else to_utc(count, record.daylight)
+    return as_utc(count_of(record), record.daylight)
