@@ -14,6 +14,7 @@ import line
 import listing
 import making
 import samples
+import second_60
 from layouts import LAYOUTS
 
 SEED = 6036
@@ -27,6 +28,9 @@ BYTES = 300_000
 AT_LEAST = 20
 WANTED = list(LAYOUTS) + [1, 3, 4, 5, 6, 7, 8, 9, 10, 11]
 
+# What has to come so often of telegrams with second 60 or above, accepted ones as 0.
+WANTED_60 = [("dated", 0), ("dated", 5), ("dated", 6), ("dated", 8), ("time-only", 0), ("time-only", 6)]
+
 # What has to occur so often among the pieces: see `kinds_of`.
 WANTED_PIECES = ["empty", "one byte", "longest", "ends behind STX", "ends before ETX", "ends behind ETX", "ends inside", "ends outside",
                  "32 events", "more than 32 events"]
@@ -39,11 +43,11 @@ def crowd(dice):
     return dice.choice([STX, STX + ETX, STX + b"12" + ETX]) * dice.choice([31, 32, 33, 34, 64, 65, dice.randrange(1, 200)])
 
 
-def damaged_line(dice, size):
-    """A line of about so many bytes."""
+def damaged_line(dice, size, some=making.some_telegram):
+    """A line of about so many bytes, with telegrams of some kind."""
     captured = b""
     while len(captured) < size:
-        captured += crowd(dice) if dice.random() < 0.05 else making.random_line(dice)
+        captured += crowd(dice) if dice.random() < 0.05 else making.random_line(dice, some)
     if dice.random() < 0.5:
         captured += STX + making.telegram_of(making.good_record(dice), True)[1:dice.randrange(2, 10)]
     return captured
@@ -89,6 +93,10 @@ def nowhere(dice, captured):
 CUTS = [(by_length, 40, 2500), (around(STX, 0), 10, 2500), (around(STX, 1), 10, 2500), (around(ETX, 0), 10, 2500),
         (around(ETX, 1), 10, 2500), (behind_32, 10, 2500), (everywhere, 5, 2500), (nowhere, 12, 9000)]
 
+# For how many lines with seconds 60.
+CUTS_60 = [(by_length, 6), (around(STX, 0), 2), (around(STX, 1), 2), (around(ETX, 0), 2), (around(ETX, 1), 2), (behind_32, 2),
+           (everywhere, 1), (nowhere, 3)]
+
 
 def pieces_of(dice, captured, cuts):
     """The line in pieces, some of them empty, and none longer than the program's buffer."""
@@ -130,14 +138,26 @@ def kinds_of(pieces):
             ("32 events", events == 32), ("more than 32 events", events > 32)) if holds)
 
 
+def seconds_60_of(captured, events):
+    """What came of each telegram with second 60 or above, and None for each other event."""
+    for start, length, result in events:
+        refusal = result if isinstance(result, int) else None
+        yield second_60.in_telegram(captured[start:start + length], True, refusal)
+
+
 def check(lines):
     """Fails where there are too few bytes, or where something that has to occur does not occur often enough."""
-    size = sum(len(piece) for pieces in lines for piece in pieces)
-    events = collections.Counter(kind_of(event) for pieces in lines for event in listing.events_of(b"".join(pieces))[0])
+    captures = [b"".join(pieces) for pieces in lines]
+    size = sum(map(len, captures))
+    found = [listing.events_of(captured)[0] for captured in captures]
+    events = collections.Counter(kind_of(event) for some in found for event in some)
     cuts = collections.Counter(kind for pieces in lines for kind in kinds_of(pieces))
-    rare = [kind for kind in WANTED if events[kind] < AT_LEAST] + [kind for kind in WANTED_PIECES if cuts[kind] < AT_LEAST]
-    if rare or size < BYTES or set(events) - set(WANTED):
-        raise AssertionError(f"lines of {size} bytes: too rare {rare}, events {dict(events)}, pieces {dict(cuts)}")
+    seconds = collections.Counter(kind for captured, some in zip(captures, found) for kind in seconds_60_of(captured, some))
+    rare = [kind for wanted, there in ((WANTED, events), (WANTED_PIECES, cuts), (WANTED_60, seconds)) for kind in wanted
+            if there[kind] < AT_LEAST]
+    if rare or size < BYTES or set(events) - set(WANTED) or set(seconds) - {None, *WANTED_60}:
+        raise AssertionError(f"lines of {size} bytes: too rare {rare}, events {dict(events)}, pieces {dict(cuts)}, "
+                             f"seconds 60 {dict(seconds)}")
 
 
 def all_lines(seed=SEED):
@@ -148,4 +168,7 @@ def all_lines(seed=SEED):
             yield pieces_of(dice, damaged_line(dice, size), cuts)
     for captured in samples.SAMPLES.values():
         yield pieces_of(dice, captured, by_length)
+    for cuts, lines in CUTS_60:
+        for _ in range(lines):
+            yield pieces_of(dice, damaged_line(dice, 2500, second_60.some_telegram), cuts)
     yield []

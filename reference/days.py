@@ -3,6 +3,7 @@
 Day number 0 is 1 January 1980, a Tuesday. Weekdays are 1 Monday to 7 Sunday.
 """
 
+import functools
 from typing import NamedTuple
 
 from refusals import CALENDAR, NO_SUCH_DAY, RANGE, Refused, check
@@ -47,6 +48,7 @@ def year_or_month_out_of_range(year, month):
     return not FIRST_YEAR <= year <= LAST_YEAR or not 1 <= month <= 12
 
 
+@functools.cache
 def days_in_month(year, month):
     """Length of a month; 6 where year or month is out of range."""
     check(((RANGE, year_or_month_out_of_range),), year, month)
@@ -83,6 +85,7 @@ MONTH_STARTS = month_starts()
 DAYS = sum(days_in_year(year) for year in range(FIRST_YEAR, LAST_YEAR + 1))
 
 
+@functools.cache
 def day_number(date):
     """Days since 1 January 1980; 6 out of range, 7 no such day."""
     check(DATE_CONDITIONS, date)

@@ -3,6 +3,7 @@
 A place is a fixed byte (a number), a decimal place (Decimal), STATUS or WEEKDAY.
 """
 
+import functools
 from typing import NamedTuple
 
 STX, ETX = 0x02, 0x03
@@ -53,11 +54,17 @@ def is_decimal(place):
     return isinstance(place, Decimal)
 
 
+# The fixed and the decimal places of each layout, with where they stand.
+FIXED_AT, DECIMALS_AT = ({layout: [(at, place) for at, place in enumerate(row) if holds(place)] for layout, row in LAYOUTS.items()}
+                         for holds in (is_fixed, is_decimal))
+
+
 def length(layout, control_characters):
     """Bytes of a telegram; STX and ETX are two of them where they are sent."""
     return len(LAYOUTS[layout]) + (2 if control_characters else 0)
 
 
+@functools.cache
 def layouts_of_length(number_of_bytes, control_characters):
     """The layouts of a length: mostly one, two time-only ones at 10 (8), else none."""
     return [layout for layout in LAYOUTS if length(layout, control_characters) == number_of_bytes]

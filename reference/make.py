@@ -12,6 +12,7 @@ import captures
 import cases
 import listing
 import measured
+import months
 import samples
 
 ROOT = pathlib.Path(__file__).resolve().parent.parent
@@ -27,6 +28,9 @@ def made():
     captures.check(lines)
     yield "crates/test_lines/stdin", b"".join(captures.handed_over(pieces) for pieces in lines)
     yield "crates/test_lines/stdout", b"".join(listing.listing(b"".join(pieces)) for pieces in lines)
+    every_month = list(months.lines())
+    months.check(every_month)
+    yield "crates/test_months/stdout", b"".join(every_month)
     yield "crates/measured/stdin", measured.GIVEN
     yield "crates/measured/stdout", measured.printed(measured.GIVEN)
     yield "crates/dialspark/stdin", samples.PRINTED

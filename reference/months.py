@@ -65,9 +65,10 @@ def group(record):
 
 def records_of(start, end):
     """The records of a month from its first day number and that of the next month."""
-    for number, (daylight, utc), time in itertools.product((start, end - 1), MARKS, TIMES):
-        date = days.date_of(number)
-        yield Dated("6021", "radio", daylight, False, utc, days.weekday_of_number(number), *time, date.day, date.month, date.year)
+    for number in (start, end - 1):
+        date, weekday = days.date_of(number), days.weekday_of_number(number)
+        for (daylight, utc), time in itertools.product(MARKS, TIMES):
+            yield Dated("6021", "radio", daylight, False, utc, weekday, *time, date.day, date.month, date.year)
 
 
 def months():
@@ -80,3 +81,34 @@ def lines():
     """Each line."""
     for first, shown in months():
         yield b"%04d-%02d" % (first.year, first.month) + b"".join(b" " + group(record) for record in shown) + b"\n"
+
+
+# --- what has to occur ---
+
+GOOD, REFUSED, NO_UTC, LAST, LAST_60 = (0, 0, 0, 0), (6, 6, 6, 6), (0, 12, 0, 0), (0, 0, 12, 12), (0, 12, 12, 12)
+
+
+def refusals_of(text):
+    """The refusals of a group, 0 where there is none."""
+    return tuple(int(found[1:]) if found.startswith(b"!") else 0 for found in text.split(b":"))
+
+
+def wanted(daylight, utc):
+    """How often each second of a mark has which refusals. Of six seconds 60 in a month one is good, but the one before the calendar is
+    not, and the one that ends it is followed by none. The calendar's first hours in local time have no UTC seconds."""
+    count, hours = len(days.MONTH_STARTS), 0 if utc else 2 if daylight else 1
+    return {
+        (60, GOOD): count - 1, (60, LAST_60): int(utc), (60, REFUSED): 5 * count + (not utc), (61, REFUSED): 6 * count,
+        (59, GOOD): 6 * count - hours - 1, (59, NO_UTC): hours, (59, LAST): 1, (0, GOOD): 6 * count - hours, (0, NO_UTC): hours,
+    }
+
+
+def check(made):
+    """Fails where a line or a group is missing, or where something does not occur just as often as it should."""
+    seen = {mark: collections.Counter() for mark in MARKS}
+    for text, (_, shown) in zip(made, months(), strict=True):
+        for found, record in zip(text.split()[1:], shown, strict=True):
+            seen[record.daylight, record.utc][record.second, refusals_of(found)] += 1
+    for mark in MARKS:
+        if seen[mark] != collections.Counter(wanted(*mark)):
+            raise AssertionError(f"months, daylight and UTC {mark}: {dict(seen[mark])}, wanted {wanted(*mark)}")

@@ -163,13 +163,12 @@ def check_record(record):
 
 # --- one second later ---
 
-def next_second(record):
-    """The record of the next second, date and weekday included; 5 to 8, then 12.
+def following(record):
+    """The record of the second behind a good one, date and weekday included; 12 where there is none.
 
     Season and status stay. A time-only record goes from 23:59:59 to 00:00:00. Behind a second 60 comes what comes behind the 59
     before it, so that nothing makes a 60.
     """
-    check_record(record)
     time, midnight = days.next_second(time_of(record)._replace(second=min(record.second, 59)))
     later = record._replace(hour=time.hour, minute=time.minute, second=time.second)
     if is_time_only(record) or not midnight:
@@ -177,6 +176,12 @@ def next_second(record):
     date = days.next_day(date_of(record))
     return later._replace(year=date.year, month=date.month, day=date.day,
                           weekday=days.weekday_of(date))
+
+
+def next_second(record):
+    """The record of the next second; 5 to 8, then 12."""
+    check_record(record)
+    return following(record)
 
 
 def step_clock(record):
@@ -187,7 +192,7 @@ def step_clock(record):
     check_record(record)
     if is_time_only(record):
         raise Refused(NO_DATE)
-    return next_second(record)
+    return following(record)
 
 
 # --- the seconds of a record ---
@@ -198,7 +203,7 @@ def count_of(record):
     check_record(record)
     if is_time_only(record):
         raise Refused(NO_DATE)
-    return seconds_shown(next_second(record) if record.second == 60 else record)
+    return seconds_shown(following(record) if record.second == 60 else record)
 
 
 def utc_seconds(record):

@@ -1,5 +1,7 @@
 """Refusal numbers, and the rule that of several that hold the lowest is given."""
 
+import functools
+
 LENGTH = 1             # the length is none of the table's
 FRAME = 2              # STX or ETX was wanted and is not at its end
 FIXED_PLACE = 3        # a space, colon, point, slash, CR or LF of the layout is not in its place
@@ -28,13 +30,19 @@ class Refused(Exception):
         self.number = number
 
 
+@functools.cache
+def rising(conditions):
+    """Conditions in the order of their numbers."""
+    return sorted(conditions, key=lambda condition: condition[0])
+
+
 def lowest(conditions, *subject):
     """The lowest number whose condition holds for the subject, or None.
 
     A condition is a pair (number, test). They are tried in rising order, so a
     test may count on every lower one not holding.
     """
-    for number, holds in sorted(conditions, key=lambda condition: condition[0]):
+    for number, holds in rising(conditions):
         if holds(*subject):
             return number
     return None

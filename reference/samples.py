@@ -49,7 +49,19 @@ def pump_start():
     ])
 
 
+def leap_second_night():
+    """Boards on leap second nights, each by its own clock: one in standard time, where the second stands before one o'clock; one in
+    daylight time, before two; one in UTC, before midnight. Then a board that puts it before its local midnight, which is wrong."""
+    return b"".join([
+        stamp_6021(b"C7005958010117"), stamp_6021(b"C7005959010117"), stamp_6021(b"C7005960010117"), stamp_6021(b"C7010000010117"),
+        stamp_5500(b"4 015959 010715 3"), stamp_5500(b"4 015960 010715 3"), stamp_5500(b"4 020000 010715 3"),
+        stamp_6021(b"CE235959311216"), stamp_6021(b"CE235960311216"), stamp_6021(b"CF000000010117"),
+        stamp_6021(b"C6235959311216"), stamp_6021(b"C6235960311216"), stamp_6021(b"C7000000010117"),
+    ])
+
+
 # The capture whose listing the requirements document prints; selftest.py holds that listing.
 PRINTED = b"x" + stamp_6021(b"E3123456170496") + b"\x0212"
 
-SAMPLES = {"winter": winter(), "nine-deliveries": nine_deliveries(), "pump-start": pump_start()}
+SAMPLES = {"winter": winter(), "nine-deliveries": nine_deliveries(), "pump-start": pump_start(),
+           "leap-second-night": leap_second_night()}

@@ -2,9 +2,8 @@
 
 from typing import NamedTuple, Optional
 
-from layouts import (ETX, LAYOUTS, STATUS, STX, TIME_ONLY, WEEKDAY, is_decimal, is_fixed,
-                     layouts_of_length)
-from records import Dated, TimeOnly, check_record, flags_of, is_time_only, next_second
+from layouts import (DECIMALS_AT, ETX, FIXED_AT, LAYOUTS, STATUS, STX, TIME_ONLY, WEEKDAY, layouts_of_length)
+from records import Dated, TimeOnly, check_record, flags_of, following, is_time_only
 from refusals import (BUFFER, DECIMAL_PLACE, FIXED_PLACE, FRAME, LENGTH, NO_DATE,
                       STATUS_OR_WEEKDAY, Refused, check)
 from status import (character_of, nibble_of, read_status, read_weekday, status_allowed,
@@ -22,7 +21,7 @@ def between(telegram, control_characters):
 
 def fixed_places_hold(layout, inner):
     """Every space, CR and LF of the layout is in its place."""
-    return all(byte == place for place, byte in zip(LAYOUTS[layout], inner) if is_fixed(place))
+    return all(inner[at] == place for at, place in FIXED_AT[layout])
 
 
 def layout_of(telegram, control_characters):
@@ -66,8 +65,7 @@ def decimal_place_wrong(telegram, control_characters):
     """Condition 4: some decimal place holds no digit."""
     layout = layout_of(telegram, control_characters)
     inner = between(telegram, control_characters)
-    return any(not DIGIT_0 <= byte <= DIGIT_9
-               for place, byte in zip(LAYOUTS[layout], inner) if is_decimal(place))
+    return any(not DIGIT_0 <= inner[at] <= DIGIT_9 for at, _ in DECIMALS_AT[layout])
 
 
 def status_or_weekday_wrong(telegram, control_characters):
@@ -99,9 +97,8 @@ def full_year(two_digits):
 def numbers_of(layout, inner):
     """The decimal fields of a telegram by name."""
     numbers = {}
-    for place, byte in zip(LAYOUTS[layout], inner):
-        if is_decimal(place):
-            numbers[place.field] = numbers.get(place.field, 0) + place.unit * (byte - DIGIT_0)
+    for at, (field, unit) in DECIMALS_AT[layout]:
+        numbers[field] = numbers.get(field, 0) + unit * (inner[at] - DIGIT_0)
     if "short_year" in numbers:
         numbers["year"] = full_year(numbers.pop("short_year"))
     return numbers
@@ -143,28 +140,25 @@ def numbers_to_write(record):
     return numbers
 
 
-def byte_at(place, record):
-    """What the writer puts in one place."""
-    if is_fixed(place):
-        return place
-    if place == STATUS:
-        return character_of(write_status(record.layout, flags_of(record)))
-    if place == WEEKDAY:
-        return character_of(write_weekday(record.layout, record.weekday, record.utc))
-    return DIGIT_0 + numbers_to_write(record)[place.field] // place.unit % 10
-
-
 def telegram_of(record, control_characters):
     """The bytes of a good record in its own layout."""
-    inner = bytes(byte_at(place, record) for place in LAYOUTS[record.layout])
-    return bytes([STX]) + inner + bytes([ETX]) if control_characters else inner
+    row, numbers = LAYOUTS[record.layout], numbers_to_write(record)
+    inner = bytearray(len(row))
+    for at, byte in FIXED_AT[record.layout]:
+        inner[at] = byte
+    for at, (field, unit) in DECIMALS_AT[record.layout]:
+        inner[at] = DIGIT_0 + numbers[field] // unit % 10
+    if not is_time_only(record):
+        inner[row.index(STATUS)] = character_of(write_status(record.layout, flags_of(record)))
+        inner[row.index(WEEKDAY)] = character_of(write_weekday(record.layout, record.weekday, record.utc))
+    return bytes([STX, *inner, ETX]) if control_characters else bytes(inner)
 
 
 def telegram_as_set(record, setting):
     """What a named setting writes; 5 to 8, and 12 for the advance."""
     check_record(record)
     if setting.second_advance:
-        record = next_second(record)
+        record = following(record)
     return telegram_of(record, setting.control_characters)
 
 
