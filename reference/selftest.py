@@ -25,6 +25,7 @@ import places
 import records
 import request_letters
 import samples
+import second_60
 import status
 import telegrams
 from days import Date, Time
@@ -58,6 +59,21 @@ def read(telegram, control=True):
 
 def framed(inner):
     return STX + inner + ETX
+
+
+def good_record(dice):
+    """A good record, now and then one with second 60."""
+    return (second_60.good_by_dice if dice.random() < 0.2 else making.good_record)(dice)
+
+
+def any_record(dice):
+    """A record, good or not, now and then one with second 60."""
+    return (second_60.any_by_dice if dice.random() < 0.2 else making.any_record)(dice)
+
+
+def random_line(dice):
+    """A damaged line, now and then one of telegrams with second 60."""
+    return making.random_line(dice, second_60.some_telegram if dice.random() < 0.2 else making.some_telegram)
 
 
 # --- the document's own examples ---
@@ -170,7 +186,7 @@ def time_of_day():
 
 def read_back_what_was_written(dice, rounds):
     for _ in range(rounds):
-        record, setting = making.good_record(dice), dice.choice(SETTINGS)
+        record, setting = good_record(dice), dice.choice(SETTINGS)
         buffer = bytearray(dice.randbytes(40))
         before = bytes(buffer)
         wanted, number = (outcome(records.next_second, record) if setting.second_advance
@@ -187,7 +203,7 @@ def read_back_what_was_written(dice, rounds):
 
 def no_setting_named(dice, rounds):
     for _ in range(rounds):
-        record = making.any_record(dice)
+        record = any_record(dice)
         buffer = bytearray(dice.randbytes(dice.choice([0, 15, 16, 40])))
         before = bytes(buffer)
         number = outcome(records.check_record, record)[1]
@@ -204,9 +220,10 @@ def no_setting_named(dice, rounds):
 
 
 def refusals_of_records(dice, rounds):
-    """Writing, stepping and UTC seconds agree on 5 to 8 and differ only behind it."""
+    """Writing, stepping and UTC seconds agree on 5 to 8 and differ only behind it. One second later is one UTC second more, but from
+    a second 60, which has the number of the second behind it; and no second is made a 60."""
     for _ in range(rounds):
-        record = making.any_record(dice)
+        record = any_record(dice)
         bad = outcome(records.check_record, record)[1]
         time_only = records.is_time_only(record)
         later, number = outcome(records.next_second, record)
@@ -217,7 +234,11 @@ def refusals_of_records(dice, rounds):
         if bad is not None or time_only:
             same("records", utc_number, bad or 14)
         elif utc is not None and later is not None:
-            same("records", records.utc_seconds(later).count, utc.count + 1)
+            same("records", records.utc_seconds(later).count, utc.count + (record.second != 60))
+        if utc is not None:
+            same("records", utc.count <= 3155759999, True)
+        if later is not None:
+            same("records", later.second < 60, True)
         for setting in SETTINGS:
             buffer = bytearray(dice.randrange(30))
             room = layouts.length(record.layout, setting.control_characters)
@@ -248,9 +269,9 @@ def fields_out_of_order():
 
 def several(dice, rounds):
     for _ in range(rounds):
-        some = [making.good_record(dice) for _ in range(dice.randrange(6))]
+        some = [good_record(dice) for _ in range(dice.randrange(6))]
         if dice.random() < 0.3:
-            some.insert(dice.randrange(len(some) + 1), making.any_record(dice))
+            some.insert(dice.randrange(len(some) + 1), any_record(dice))
         setting = dice.choice(SETTINGS + [None])
         buffer = bytearray(dice.randrange(140))
         room, wanted = bytearray(len(buffer)), Written(0, 0, None)
@@ -294,12 +315,111 @@ def utc_counts():
     same("utc", outcome(records.count_of, TimeOnly("5050t", 23, 59, 59)), (None, 14))
 
 
+# --- second 60 ---
+
+SECOND = datetime.timedelta(seconds=1)
+FIRST_MOMENT = datetime.datetime(1980, 1, 1)
+SHIFTS = {(False, False): datetime.timedelta(hours=1), (True, False): datetime.timedelta(hours=2), (False, True): 0 * SECOND,
+          (True, True): 0 * SECOND}
+
+
+def ends_a_month(moment):
+    """Whether the second behind a UTC moment of the calendar is a month's first."""
+    behind = moment + SECOND
+    return moment >= FIRST_MOMENT and (behind.day, behind.hour, behind.minute, behind.second) == (1, 0, 0, 0)
+
+
+ENDS = [datetime.timedelta(hours=hour, minutes=59, seconds=59) for hour in range(24)]
+
+
+def second_60_by_library():
+    """Every hour's end of the calendar in each season and in UTC: 60 is out of range but where the second before it ends a UTC month.
+    A good one is followed by what the standard library has behind the 59, and shares its UTC second."""
+    for (daylight, utc), wanted_ones in (((False, False), 1199), ((True, False), 1199), ((False, True), 1200)):
+        shift, good_ones = SHIFTS[daylight, utc], 0
+        for number in range(days.DAYS):
+            there = FIRST_MOMENT + number * DAY
+            date = there.isoweekday(), there.day, there.month, there.year
+            wanted = [hour for hour, end in enumerate(ENDS) if ends_a_month(there + end - shift)]
+            same("second 60", (there, hours_of_60(daylight, utc, *date)), (there, wanted))
+            for hour in wanted:
+                followed_by_library((daylight, utc), there + datetime.timedelta(hours=hour))
+            good_ones += len(wanted)
+        same("second 60", good_ones, wanted_ones)
+
+
+def hours_of_60(daylight, utc, weekday, day, month, year):
+    """The hours of a day whose minute 59 has a second 60 that is in range."""
+    return [hour for hour in range(24)
+            if not records.out_of_range(Dated("6021", "radio", daylight, False, utc, weekday, hour, 59, 60, day, month, year))]
+
+
+def followed_by_library(mark, hour):
+    """The second 60 that ends an hour, in every layout that can say it."""
+    behind = hour + datetime.timedelta(hours=1)
+    utc = int((behind - SHIFTS[mark] - FIRST_MOMENT).total_seconds())
+    for layout in ("6021", "2000", "5500", "5050"):
+        record = Dated(layout, "crystal", mark[0], False, mark[1], hour.isoweekday(), hour.hour, 59, 60, hour.day, hour.month, hour.year)
+        later = record._replace(weekday=behind.isoweekday(), hour=behind.hour, minute=0, second=0, day=behind.day, month=behind.month,
+                                year=behind.year)
+        last = behind.year == 2080
+        for step in (records.next_second, records.step_clock):
+            same("second 60", outcome(step, record), (None, 12) if last else (later, None))
+        same("second 60", outcome(records.utc_seconds, record), (None, 12) if last else (records.UtcSeconds(utc), None))
+        same("second 60", outcome(records.count_of, record), (None, 12) if last else outcome(records.count_of, later))
+        written, advanced = bytearray(40), bytearray(40)
+        used = telegrams.write_telegram(record, written, Setting(True, False))
+        same("second 60", read(bytes(written[:used])), record)
+        used, number = outcome(telegrams.write_telegram, record, advanced, Setting(True, True))
+        same("second 60", number if used is None else read(bytes(advanced[:used])), 12 if last else later)
+
+
+def second_60_by_hand():
+    """Telegrams around second 60, and the number that each is refused with or 0."""
+    for inner, number in (
+            (b"C7005960010117", 0), (b"C7005961010117", 6), (b"C7005860010117", 6), (b"C7015960010117", 6), (b"C7235960010117", 6),
+            (b"C1005960020117", 6), (b"C6005960311216", 6), (b"C6235960311216", 6), (b"E7005960010117", 6), (b"E7015960010117", 0),
+            (b"E6235960311216", 6), (b"CE235960311216", 0), (b"EE235960311216", 0), (b"CE225960311216", 6), (b"CF005960010117", 6),
+            (b"CD235960301216", 6), (b"C1005960010117", 8), (b"C0005960010117", 5), (b"CF235960311216", 8), (b"C8235960311216", 5),
+            (b"C7005999010117", 6), (b"C7005959010117", 0), (b"C7006060010117", 6), (b"C7245960010117", 6), (b"C2005960010180", 6),
+            (b"E2015960010180", 6), (b"C5005960010280", 0), (b"CC235960310180", 0), (b"CF235960311279", 0), (b"C7235960311279", 6),
+            (b"C9235960290299", 6), (b"CF235960280299", 0), (b"CA235960290200", 0), (b"CB235960300200", 6), (b"CF235960310423", 6)):
+        got = read(framed(inner + LF_CR))
+        same("second 60", (inner, got if isinstance(got, int) else 0), (inner, number))
+    for inner, number in (
+            (b"0 005960 010117 7" + CR_LF, 0), (b"5 015960 010117 7" + CR_LF, 0), (b"8 235960 311216 6" + CR_LF, 0),
+            (b"A 235960 311216 6" + CR_LF, 5), (b"4 005960 010117 7" + CR_LF, 6), (b"00 59 60 01 01 17 07 " + CR_LF, 0),
+            (b"23 59 60 31 12 16 86 " + CR_LF, 0), (b"23 59 60 31 12 16 06 " + CR_LF, 6), (b"EE23596031122016" + LF_CR, 0),
+            (b"CF23596031122079" + LF_CR, 0), (b"CF23596031122080" + LF_CR, 6), (b"C200596001011980" + LF_CR, 6),
+            (b"005960" + LF_CR, 0), (b"235960" + CR_LF, 0), (b"12 59 60 " + CR_LF, 0), (b"245960" + LF_CR, 6), (b"125860" + CR_LF, 6),
+            (b"235961" + LF_CR, 6), (b"23 59 99 " + CR_LF, 6)):
+        got = read(inner, control=False)
+        same("second 60", (inner, got if isinstance(got, int) else 0), (inner, number))
+    for hour, later in ((0, 1), (12, 13), (23, 0)):
+        record = TimeOnly("5050t", hour, 59, 60)
+        same("second 60", records.next_second(record), TimeOnly("5050t", later, 0, 0))
+        same("second 60", [outcome(ask, record) for ask in (records.step_clock, records.count_of, records.utc_seconds)], 3 * [(None, 14)])
+    for ask in (days.second_of_day, days.next_second):
+        same("second 60", outcome(ask, Time(23, 59, 60)), (None, 6))
+    for row in (b"36;6021;2017-01-01;00:59:60;7;high,standard\n", b"93;5500;2015-07-01;01:59:60;3;radio,daylight\n",
+                b"153;6021;2016-12-31;23:59:60;6;high,standard,utc\n", b"207;refused 6\n"):
+        same("second 60", row in listing.listing(samples.leap_second_night()), True)
+
+
+def second_60_of_the_cases(dice, rounds):
+    """The records of the cases: the good ones are good, and the bad ones have the number that is said of them."""
+    for record in [*second_60.good_by_hand()] + [second_60.good_by_dice(dice) for _ in range(rounds)]:
+        same("second 60", (record, record.second, outcome(records.check_record, record)[1]), (record, 60, None))
+    for number, record in second_60.bad_by_hand():
+        same("second 60", (record, outcome(records.check_record, record)[1]), (record, number))
+
+
 # --- damaged telegrams ---
 
 def what_reads_is_what_the_writer_makes(dice, rounds):
     for _ in range(rounds):
         control = dice.random() < 0.5
-        telegram = making.damaged(dice, making.telegram_of(making.good_record(dice), control))
+        telegram = making.damaged(dice, making.telegram_of(good_record(dice), control))
         got = read(telegram, control)
         if isinstance(got, int):
             same("damaged", 1 <= got <= 8, True)
@@ -370,7 +490,7 @@ def fed_in_pieces(dice, state, captured):
 
 def lines(dice, rounds):
     for _ in range(rounds):
-        captured = making.random_line(dice)
+        captured = random_line(dice)
         whole, stray = events_by_pattern(captured)
         same("line", listing.events_of(captured)[0], whole)
         state, events = fed_in_pieces(dice, line.fresh(), captured)
@@ -386,7 +506,7 @@ def lines(dice, rounds):
 def used_up(dice, rounds):
     """What a piece gives at one call is what its bytes give one by one, up to the thirty-second event."""
     for _ in range(rounds):
-        piece = making.random_line(dice) + STX * dice.choice([0, 30, 31, 32, 33, 100]) + making.random_line(dice)
+        piece = random_line(dice) + STX * dice.choice([0, 30, 31, 32, 33, 100]) + random_line(dice)
         passed = line.use_up(line.fresh(), piece)
         state, events, taken = line.fresh(), [], 0
         while taken < len(piece) and len(events) < 32:
@@ -399,7 +519,7 @@ def used_up(dice, rounds):
 def wrapping_counts(dice, rounds):
     """The same line behind counts that are about to wrap gives the same events, moved."""
     for _ in range(rounds):
-        captured = making.random_line(dice)
+        captured = random_line(dice)
         fed, stray = (dice.choice([WRAP - 1, dice.randrange(WRAP - 200, WRAP)]) for _ in "ab")
         moved = line.state_of([0] * 24, 0, fed, stray, fed)
         state, events = fed_in_pieces(dice, line.fresh(), captured)
@@ -455,7 +575,7 @@ def parameter_bytes():
 def digits_and_places(dice, rounds):
     """A good record's digits make its telegram, and are found in it; a layout is found from the length."""
     for _ in range(rounds):
-        record = making.good_record(dice)
+        record = good_record(dice)
         telegram, row, digits = making.telegram_of(record, False), places.row_of(record.layout), places.digits_of(record)
         buffer = bytearray(len(telegram))
         places.render(row, digits, buffer)
@@ -474,7 +594,7 @@ def digits_and_places(dice, rounds):
 def rows(dice, rounds):
     """A row goes into a buffer that has room for it, and into no shorter one. A record that no telegram carries has none."""
     for _ in range(rounds):
-        result = dice.choice([making.any_record(dice), dice.randrange(1, 12)])
+        result = dice.choice([any_record(dice), dice.randrange(1, 12)])
         event = line.Event(dice.randrange(WRAP), 18, result)
         text = listing.row(event)
         buffer = bytearray(b"?" * dice.choice([len(text) - 1, len(text), len(text) + 3]))
@@ -684,6 +804,9 @@ def main():
     fields_out_of_order()
     several(dice, 1000)
     utc_counts()
+    second_60_by_library()
+    second_60_by_hand()
+    second_60_of_the_cases(dice, 2000)
     what_reads_is_what_the_writer_makes(dice, 20000)
     status_and_weekday_characters()
     lines(dice, 1500)
