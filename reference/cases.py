@@ -371,7 +371,8 @@ def row_case(start, answer, room):
     handed = bytes([answer]) if isinstance(answer, int) else b"\0" + record_bytes(answer)
     event = line.Event(start, 0, answer)
     given = start.to_bytes(4, "big") + bytes([room]) + handed
-    return in_buffer("G", given, room, ROW, lambda buffer: listing.write_row(event, buffer), None if isinstance(answer, int) else answer)
+    record = None if isinstance(answer, int) else answer
+    return in_buffer("G", given, room, ROW, lambda buffer: listing.write_row(event, buffer), record)
 
 
 def stray_case(stray, room):
@@ -449,18 +450,18 @@ def bad_records():
     yield TimeOnly("5050t", 24, 0, 0)
 
 
-def writes_of_bad_records():
+def writes_of_bad_records(bad):
     """Refused with the record's own number, whatever the buffer's length; so behind a good one."""
-    for record in bad_records():
+    for record in bad:
         for setting in SETTINGS:
             yield write_case(record, setting, 0)
             yield write_case(record, setting, ONE)
         yield several_case([TimeOnly("6021t", 1, 2, 3), record], Setting(True, False), MANY)
 
 
-def writes_around_the_edge():
-    """Each layout with each setting, into buffers from one byte short to one byte more, and into none."""
-    for record in one_of_each():
+def writes_around_the_edge(good):
+    """Records with each setting, into buffers from one byte short to one byte more, and into none."""
+    for record in good:
         for setting in SETTINGS:
             size = 16 if setting is None else length(record.layout, setting.control_characters)
             for room in (0, size - 1, size, size + 1):
@@ -724,6 +725,9 @@ def second_60_cases(dice):
         yield write_case(record, SETTINGS[number % len(SETTINGS)], ONE)
         if number % 3 == 0:
             yield row_case(COUNTS[number % len(COUNTS)], record, ROW)
+    for record, control in itertools.product(second_60.one_of_each(), (True, False)):
+        if not records.is_time_only(record):
+            yield read_case(second_60.without_weekday(telegrams.telegram_of(record, control), record.layout, control), control)
     others = itertools.cycle([next_case, count_case, utc_case, clock_case("K"), clock_case("k"), any_write(dice), any_row(dice)])
     for _, record in second_60.bad_by_hand():
         yield rule_case(record)
@@ -741,7 +745,10 @@ def second_60_cases(dice):
 
 
 def second_60_on_lines(dice):
-    """Several written one behind another, and pieces with telegrams of them, also behind a state that holds the first bytes."""
+    """Written into short buffers; several one behind another; pieces with telegrams of them, also behind a state that holds the first
+    bytes."""
+    yield from writes_around_the_edge(second_60.one_of_each())
+    yield from writes_of_bad_records(second_60.bad_ones())
     for _ in range(120):
         some = [second_60.any_by_dice(dice) for _ in range(dice.randrange(1, 4))]
         yield several_case([second_60.good_by_dice(dice), *some], dice.choice(SETTINGS), dice.choice([MANY, dice.randrange(MANY + 1)]))
@@ -788,8 +795,8 @@ def all_cases(seed=SEED):
     yield from layout_cases(dice)
     yield from manual_cases()
     yield from damaged_cases(dice)
-    yield from writes_around_the_edge()
-    yield from writes_of_bad_records()
+    yield from writes_around_the_edge(one_of_each())
+    yield from writes_of_bad_records(bad_records())
     yield from writes_by_dice(dice)
     yield from several_by_dice(dice)
     yield from line_cases(dice)

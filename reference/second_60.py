@@ -59,14 +59,21 @@ def good_by_hand():
         yield TimeOnly(layout, hour, 59, 60)
 
 
+def one_of_each():
+    """A good one of each layout."""
+    for layout in layouts.LAYOUTS:
+        yield TimeOnly(layout, 23, 59, 60) if layout in layouts.TIME_ONLY else after(layout, (False, True), LAST_DAYS[-2])
+
+
 def good_by_dice(dice):
     """Any good one, with any status that its layout allows."""
     layout = dice.choice(list(layouts.LAYOUTS))
     if layout in layouts.TIME_ONLY:
         return TimeOnly(layout, dice.randrange(24), 59, 60)
     mark = dice.choice([mark for mark in MARKS if layout in layouts_of(mark)])
+    last_day = dice.choice([LAST_DAYS[-1]] + [dice.choice(LAST_DAYS) for _ in range(4)])
     # The last month of the calendar ends in UTC only.
-    record = after(layout, mark, dice.choice([dice.choice(LAST_DAYS), LAST_DAYS[-1]])) or after(layout, mark, LAST_DAYS[0])
+    record = after(layout, mark, last_day) or after(layout, mark, LAST_DAYS[0])
     if layout in layouts.STATUS_AS_6021:
         return record._replace(reception=dice.choice(status.RECEPTIONS), announced=dice.random() < 0.5)
     return record._replace(reception=dice.choice(["crystal", "radio"]), announced=not record.utc and dice.random() < 0.5)
@@ -118,6 +125,11 @@ def bad_by_hand():
             yield 6, TimeOnly(layout, *time)
         for second in BEYOND:
             yield 6, TimeOnly(layout, 23, 59, second)
+
+
+def bad_ones():
+    """A bad one of each number, with a date and without."""
+    return {(number, records.is_time_only(record)): record for number, record in bad_by_hand()}.values()
 
 
 def bad_ends_of_the_calendar():

@@ -359,7 +359,8 @@ def followed_by_library(mark, hour):
     behind = hour + datetime.timedelta(hours=1)
     utc = int((behind - SHIFTS[mark] - FIRST_MOMENT).total_seconds())
     for layout in ("6021", "2000", "5500", "5050"):
-        record = Dated(layout, "crystal", mark[0], False, mark[1], hour.isoweekday(), hour.hour, 59, 60, hour.day, hour.month, hour.year)
+        record = Dated(layout, "crystal", mark[0], False, mark[1], hour.isoweekday(), hour.hour, 59, 60,
+                       hour.day, hour.month, hour.year)
         later = record._replace(weekday=behind.isoweekday(), hour=behind.hour, minute=0, second=0, day=behind.day, month=behind.month,
                                 year=behind.year)
         last = behind.year == 2080
@@ -398,7 +399,8 @@ def second_60_by_hand():
     for hour, later in ((0, 1), (12, 13), (23, 0)):
         record = TimeOnly("5050t", hour, 59, 60)
         same("second 60", records.next_second(record), TimeOnly("5050t", later, 0, 0))
-        same("second 60", [outcome(ask, record) for ask in (records.step_clock, records.count_of, records.utc_seconds)], 3 * [(None, 14)])
+        for ask in (records.step_clock, records.count_of, records.utc_seconds):
+            same("second 60", outcome(ask, record), (None, 14))
     for ask in (days.second_of_day, days.next_second):
         same("second 60", outcome(ask, Time(23, 59, 60)), (None, 6))
     for row in (b"36;6021;2017-01-01;00:59:60;7;high,standard\n", b"93;5500;2015-07-01;01:59:60;3;radio,daylight\n",
