@@ -1,5 +1,5 @@
 -- What documents 01 and 02 say of the station clock holds of literal records, computed from the definitions. Assumes nothing.
-use mathlib.Core.Path.{refl, sym}
+use mathlib.Core.Path.{refl}
 use Rattle.refusals.specs.Refusals.{unless}
 use Rattle.calendar.specs.Calendar.{isLeap, monthLength, monthInRange, dateInRange, dayExists, dateRefusal, monthStart, dayOf, dayNumber, seek, monthHolding, dateAt, isLastDay, dayAfter}
 use Rattle.calendar.specs.TimeOfDay.{timeInRange, timeRefusal, secondsOf, secondOfDay, isLastSecond, timeAfter}
@@ -8,12 +8,10 @@ use Rattle.record.specs.Moment.{momentOf}
 use Rattle.record.specs.Sixty.{sixtyBehind59, takesSixty, upTo59}
 use Rattle.record.specs.Rule.{statusAllowed, weekdayAllowed, weekdayAgrees, timeAllowed, timeAloneAllowed, timeAloneRefusal, datedRefusal}
 use Rattle.record.specs.Next.{nextSecondOf}
-use Rattle.record.proofs.AsPrintedHolds.{lastSixty, last-next}
 use Rattle.clock.specs.Stepping.{clockSecond, stepOf}
 use Rattle.clock.specs.AsPrinted.{StepsAreAsPrinted}
-use Rattle.clock.proofs.StepLaws.{second-refused}
 
 pub as-printed : StepsAreAsPrinted
 unfolding unless isLeap monthLength monthInRange dateInRange dayExists dateRefusal monthStart dayOf dayNumber seek monthHolding dateAt isLastDay dayAfter timeInRange timeRefusal secondsOf secondOfDay isLastSecond timeAfter seasonShift toUtc momentOf sixtyBehind59 takesSixty upTo59 statusAllowed weekdayAllowed weekdayAgrees timeAllowed timeAloneAllowed timeAloneRefusal datedRefusal nextSecondOf clockSecond stepOf
 as-printed =
-    (refl, (refl, (refl, (refl, (refl, (refl, (refl, (refl, (refl, (refl, (refl, (sym (second-refused (record { rec = lastSixty }) 12 last-next), tt))))))))))))
+    (refl, (refl, (refl, (refl, (refl, (refl, (refl, (refl, (refl, (refl, (refl, tt)))))))))))

@@ -28,10 +28,12 @@ use Rattle.record.proofs.RuleLaws.{good, good-counted}
 use Rattle.record.proofs.NextLaws.{next-no-sixty}
 use Rattle.record.proofs.UtcLaws.{done-after, followers-number, plain-time, placed, placed-seconds, count-within, none-later, later-still, seconds-in-later}
 use Rattle.record.proofs.FollowingLaws.{next-is-later}
+use Rattle.record.proofs.LastSixtyHolds.{lastSixty, last-next}
 use Rattle.clock.specs.declared.Clock.{Clock}
 use Rattle.clock.specs.declared.StepAnswer.the-variants as answer
 use Rattle.clock.specs.Stepping.{clockSecond, steppedBy, stepOf}
 use Rattle.clock.specs.Running.{secondsOfSteps, AStepAddsOneSecond, TheLastSecondGives12, TheLastSixtyGives12, NoStepMakesASixty, stepped, EachIsMade, StepsAddAsManySeconds}
+use Rattle.clock.specs.AsPrinted.{TheLastSixtyIsAsPrinted}
 use Rattle.clock.proofs.StepLaws.{second-is-next, second-refused, goes-on}
 
 -- The end of the calendar, by its second and by its day number.
@@ -132,6 +134,9 @@ unfolding nextSecondOf unless upTo59 isLastSecond isLastDay
 last-sixty-gives-12 clock layout status is none =
     let ends : nextSecondOf (clock .rec) ≡ refused 12 = rw (none, is) in
     ap (λ s. s .answer) (sym (second-refused clock 12 ends))
+
+pub last-as-printed : TheLastSixtyIsAsPrinted
+last-as-printed = sym (second-refused (record { rec = lastSixty }) 12 last-next)
 
 -- a step that is made leaves no second 60
 pub step-makes-no-sixty : NoStepMakesASixty

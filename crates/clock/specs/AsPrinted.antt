@@ -45,10 +45,13 @@ printedSteps =
     -- "6 is still given for every other 60"; a time-only one is good, and carries no date
     ∷ stepIs (Dated L6021 standardTime 4 (date 1981 7 2) (time 0 59 60)) (Dated L6021 standardTime 4 (date 1981 7 2) (time 0 59 60)) (Refused 6)
     ∷ stepIs (TimeOnly T6021 (time 12 59 60)) (TimeOnly T6021 (time 12 59 60)) (Refused 14)
-    -- "with 12 after 31.12.2079 23:59:60 too"
-    ∷ stepIs (Dated L6021 markedUtc 7 (date 2079 12 31) (time 23 59 60)) (Dated L6021 markedUtc 7 (date 2079 12 31) (time 23 59 60)) (Refused 12)
     ∷ []
 
 -- one statement over the table
 abbrev pub StepsAreAsPrinted : Type 0
 StepsAreAsPrinted = EachHolds StepRowHolds printedSteps
+
+-- "with 12 after 31.12.2079 23:59:60 too"
+abbrev pub TheLastSixtyIsAsPrinted : Type 0
+TheLastSixtyIsAsPrinted =
+    StepRowHolds (stepIs (Dated L6021 markedUtc 7 (date 2079 12 31) (time 23 59 60)) (Dated L6021 markedUtc 7 (date 2079 12 31) (time 23 59 60)) (Refused 12))

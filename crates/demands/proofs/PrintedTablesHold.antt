@@ -1,8 +1,10 @@
 -- All that is printed holds, by the theorem of each table. Assumes nothing.
 use Rattle.layouts.proofs.AsPrintedHolds as layouts
 use Rattle.record.proofs.AsPrintedHolds as records
+use Rattle.record.proofs.LastSixtyHolds.{last-as-printed}
 use Rattle.calendar.proofs.AsPrintedHolds as calendar
 use Rattle.clock.proofs.AsPrintedHolds as clock
+use Rattle.clock.proofs.RunLaws.{last-as-printed as last-step-as-printed}
 use Rattle.board.proofs.AsPrintedHolds as board
 use Rattle.listing.proofs.AsPrintedHolds as listing
 use Rattle.pages.proofs.AsPrintedHolds as pages
@@ -14,4 +16,4 @@ use Rattle.demands.proofs.BoundaryHolds.{boundary-table}
 
 pub all-is-as-printed : AllIsAsPrinted
 all-is-as-printed =
-    (layouts.as-printed, records.as-printed, calendar.month-starts-as-printed, calendar.calendar-as-printed, clock.as-printed, board.of-6036-as-printed, listing.listing-as-printed, pages.as-printed, boundary-table, calendar.days-of-the-year-as-printed, leitch.as-printed, every-as-printed, requests.requests-as-printed)
+    (layouts.as-printed, records.as-printed, calendar.month-starts-as-printed, calendar.calendar-as-printed, clock.as-printed, board.of-6036-as-printed, listing.listing-as-printed, pages.as-printed, boundary-table, calendar.days-of-the-year-as-printed, leitch.as-printed, every-as-printed, requests.requests-as-printed, records.sixties-as-printed, last-as-printed, last-step-as-printed)

@@ -2,9 +2,9 @@
 -- literal rows in the crate whose definitions it pins (its file is specs/AsPrinted.antt), so that a swap made in definition and code
 -- together is refused there. This page names them all, to be held beside the documents.
 use Rattle.layouts.specs.AsPrinted.{TheTablesAreAsPrinted}
-use Rattle.record.specs.AsPrinted.{RecordsAreAsPrinted}
+use Rattle.record.specs.AsPrinted.{RecordsAreAsPrinted, SixtiesAreAsPrinted, TheLastSixtyIsAsPrinted}
 use Rattle.calendar.specs.AsPrinted.{TheMonthStartsAreAsPrinted, TheCalendarIsAsPrinted, TheDaysOfTheYearAreAsPrinted}
-use Rattle.clock.specs.AsPrinted.{StepsAreAsPrinted}
+use Rattle.clock.specs.AsPrinted.{StepsAreAsPrinted, TheLastSixtyIsAsPrinted as TheLastStepIsAsPrinted}
 use Rattle.board.specs.AsPrinted.{The6036IsAsPrinted}
 use Rattle.listing.specs.AsPrinted.{TheListingIsAsPrinted}
 use Rattle.pages.specs.AsPrinted.{TheWholeListingIsAsPrinted}
@@ -37,3 +37,7 @@ AllIsAsPrinted =
     × EveryReplyIsAsPrinted
     -- document 02, a, and 000, 6: the request letters, and bytes that are none
     × RequestsAreAsPrinted
+    -- document 02, b: second 60 at the ends of UTC months, beside them, and at the calendar's end
+    × SixtiesAreAsPrinted
+    × TheLastSixtyIsAsPrinted
+    × TheLastStepIsAsPrinted

@@ -4,4 +4,5 @@ pub mod RuleLaws
 pub mod NextLaws
 pub mod UtcLaws
 pub mod FollowingLaws
+pub mod LastSixtyHolds
 pub mod Whole

@@ -119,8 +119,12 @@ printedSixties =
     ∷ nextIs (TimeOnly T6021 (time 23 59 60)) (done (TimeOnly T6021 (time 0 0 0)))
     -- "neither makes a 60 by itself"
     ∷ nextIs (Dated L6021 markedUtc 2 (date 1981 6 30) (time 23 59 59)) (done (Dated L6021 markedUtc 3 (date 1981 7 1) (time 0 0 0)))
-    -- "12 if there is none", "with 12 after 31.12.2079 23:59:60 too"
-    ∷ refusalIs (Dated L6021 markedUtc 7 (date 2079 12 31) (time 23 59 60)) 0
+    ∷ []
+
+-- "12 if there is none", "with 12 after 31.12.2079 23:59:60 too": it is read and written
+abbrev pub printedLastSixty : List RecordRow
+printedLastSixty =
+    refusalIs (Dated L6021 markedUtc 7 (date 2079 12 31) (time 23 59 60)) 0
     ∷ utcIs (Dated L6021 markedUtc 7 (date 2079 12 31) (time 23 59 60)) (refused 12)
     ∷ countIs (Dated L6021 markedUtc 7 (date 2079 12 31) (time 23 59 60)) (refused 12)
     ∷ nextIs (Dated L6021 markedUtc 7 (date 2079 12 31) (time 23 59 60)) (refused 12)
@@ -132,3 +136,6 @@ RecordsAreAsPrinted = EachHolds RecordRowHolds printedRecords
 
 abbrev pub SixtiesAreAsPrinted : Type 0
 SixtiesAreAsPrinted = EachHolds RecordRowHolds printedSixties
+
+abbrev pub TheLastSixtyIsAsPrinted : Type 0
+TheLastSixtyIsAsPrinted = EachHolds RecordRowHolds printedLastSixty
