@@ -4,30 +4,90 @@ use mathlib.Core.Bool.{Bool, true, false, cond, _&&_}
 use Prim.Native.Nat.{ℕ, _-_, _<_, _≤_}
 use native.Mathlib.Omega.{arith}
 use lib.Dec.{eqb}
-use borrow.Author.Tests.{eqb-true}
-use Rattle.refusals.specs.Refusals.{_when_, _else_, done, refused, after}
+use borrow.Author.Tests.{eqb-true, eq-eqb}
+use Rattle.refusals.specs.Refusals.{_when_, _else_, Outcome, done, refused, after}
 use Rattle.refusals.proofs.Laws.{both, was-done, was-refused}
-use Rattle.calendar.specs.Calendar.{weekdayOf, isLastDay, dayAfter}
-use Rattle.calendar.specs.TimeOfDay.{isLastSecond, timeAfter}
+use Rattle.calendar.specs.Calendar.{dateRefusal, dayOf, weekdayOf, isLastDay, dayAfter}
+use Rattle.calendar.specs.TimeOfDay.{timeInRange, isLastSecond, timeAfter}
 use Rattle.calendar.specs.Literals.{date, time}
 use Rattle.calendar.specs.declared.date.Date.{Date}
 use Rattle.calendar.specs.declared.time.Time.{Time}
+use Rattle.calendar.proofs.Dates.{inside-holds}
+use Rattle.calendar.proofs.Laws.{weekday-1-to-7}
+use Rattle.calendar.proofs.Times.{good-range}
+use Rattle.record.specs.declared.DatedLayout.{DatedLayout}
+use Rattle.record.specs.declared.Status.{Status}
 use Rattle.record.specs.declared.Record.{Record}
 use Rattle.record.specs.declared.Record.the-variants.{Dated, TimeOnly}
 use Rattle.record.specs.declared.season.UtcSeconds.{UtcSeconds}
 use Rattle.record.specs.declared.season.Count.{Count}
 use Rattle.record.specs.declared.season.Count.the-variants.{Local, Utc}
 use Rattle.record.specs.Season.{secondsLater, secondsIn, calendarSeconds, seasonShift, isOutside, toUtc}
-use Rattle.record.specs.Moment.{inUtc}
-use Rattle.record.specs.Sixty.{isSixty, at59, upTo59}
-use Rattle.record.specs.Rule.{refusalOf, is60}
+use Rattle.record.specs.Moment.{inUtc, utcMoment}
+use Rattle.record.specs.Sixty.{isSixty, at59, endsUtcMonth, takesSixty, upTo59}
+use Rattle.record.specs.Rule.{statusAllowed, weekdayAllowed, refusalOf, is60}
 use Rattle.record.specs.Next.{weekdayAfter, recordAfter, isLastOfCalendar, nextSecondOf}
 use Rattle.record.specs.Utc.{countOf, utcSeconds}
-use Rattle.record.specs.Following.{TheNextSecondIsOneLater, ASixtySharesItsFollowersNumber, OneSixtyHasNoFollower, WithoutAFollowerItHasNoNumber, NoCountIsBehindTheCalendar}
-use Rattle.record.proofs.SixtyLaws.{last-number, marked-or-local}
-use Rattle.record.proofs.RuleLaws.{good, sixty-taken}
+use Rattle.record.specs.Following.{TheSameRecordWith59Decides, TheNextSecondIsOneLater, ASixtySharesItsFollowersNumber, OneSixtyHasNoFollower, WithoutAFollowerItHasNoNumber, NoCountIsBehindTheCalendar}
+use Rattle.record.proofs.SixtyLaws.{same, good-at-59, last-number, takes, sixty-means, marked-or-local}
+use Rattle.record.proofs.RuleLaws.{good, not-refused, good-counted, range-allowed, sixty-taken}
 use Rattle.record.proofs.NextLaws.{followed, next-good}
-use Rattle.record.proofs.UtcLaws.{done-after, followers-number, next-number, plain-later, none-later, count-within, utc-refused}
+use Rattle.record.proofs.UtcLaws.{done-after, plain-time, own-number, counted-good, followers-number, next-number, plain-later, none-later, count-within, utc-refused, had-count}
+
+-- The record with second 59 and its date's own weekday.
+module _ (layout : DatedLayout) (status : Status) (on : Date) (at : Time) (status-fine : statusAllowed layout status ≡ true) where
+  abbrev with59 : Record
+  with59 = Dated layout status (weekdayOf (dayOf on)) on (at59 at)
+
+  -- where the calendar has its date and its time it is good, and its UTC second is the moment
+  moment-of-59 : dateRefusal on ≡ 0 → timeInRange (at59 at) ≡ true → utcSeconds with59 ≡ utcMoment status on (at59 at)
+  unfolding weekdayAllowed
+  moment-of-59 fine range =
+      let week = weekday-1-to-7 (dayOf on) in
+      let none =
+      not-refused layout status (weekdayOf (dayOf on)) on (at59 at)
+      (record {
+        status-allowed = status-fine;
+        weekday-allowed = inside-holds 1 (weekdayOf (dayOf on)) 7 (week .0) (week .1);
+        time-allowed = range-allowed status on (at59 at) range;
+        date-good = fine;
+        weekday-agrees = refl;
+      }) in
+      ap (λ count. after count (λ counted. inUtc (status .daylight) counted)) (own-number with59 none refl)
+
+  -- and where it has a UTC second at all, the calendar has both
+  has-both : endsUtcMonth (utcSeconds with59) ≡ true → (dateRefusal on ≡ 0) × (timeInRange (at59 at) ≡ true)
+  has-both ends = go (utcSeconds with59) refl ends
+    where
+      go : (outcome : Outcome UtcSeconds) → utcSeconds with59 ≡ outcome → endsUtcMonth outcome ≡ true → (dateRefusal on ≡ 0) × (timeInRange (at59 at) ≡ true)
+      go (done utc) e ends =
+          let had = had-count with59 utc e in
+          let g = good layout status (weekdayOf (dayOf on)) on (at59 at) (counted-good with59 (had .0) (had .1)) in
+          (g .date-good, rw (plain-time (at59 at) refl) at (good-counted layout status (weekdayOf (dayOf on)) on (at59 at) g))
+      go (refused n) e ends = let z : _≡_ {A = ℕ} 0 1 = cc in absurd (omega arith)
+
+pub same-with-59-decides : TheSameRecordWith59Decides
+same-with-59-decides layout status on at fine sixty =
+    same _ _ there back
+  where
+    there : takesSixty status on at ≡ true → (eqb (at .minute) 59 && endsUtcMonth (utcSeconds (Dated layout status (weekdayOf (dayOf on)) on (at59 at)))) ≡ true
+    there e =
+        let t = sixty-means status on at e in
+        rw (eq-eqb (at .minute) 59 (t .minute))
+        (ap endsUtcMonth (moment-of-59 layout status on at fine (t .date-good) (good-at-59 at (t .minute) (t .hour))) ∙ t .ends)
+
+    back : (eqb (at .minute) 59 && endsUtcMonth (utcSeconds (Dated layout status (weekdayOf (dayOf on)) on (at59 at)))) ≡ true → takesSixty status on at ≡ true
+    back e =
+        let parts = both (eqb (at .minute) 59) _ e in
+        let has = has-both layout status on at fine (parts .1) in
+        takes status on at
+        (record {
+          is-sixty = sixty;
+          minute = eqb-true _ _ (parts .0);
+          hour = good-range (at59 at) (has .1) .to-hour;
+          date-good = has .0;
+          ends = sym (ap endsUtcMonth (moment-of-59 layout status on at fine (has .0) (has .1))) ∙ parts .1;
+        })
 
 -- what follows has the same status: UTC seconds go by the count alone
 utc-by-count : (rec next : Record) → nextSecondOf rec ≡ done next → countOf rec ≡ countOf next → utcSeconds rec ≡ utcSeconds next

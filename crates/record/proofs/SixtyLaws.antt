@@ -22,7 +22,7 @@ use Rattle.record.specs.Sixty.{isSixty, at59, sixtyBehind59, isMonthsLas
 use Rattle.record.specs.SixtyByFields.{endsInUtc, endsInLocal, sixtyByFields, TheFieldsSayTheSame}
 
 -- two tests, each of which passes where the other does
-same : (a b : Bool) → (a ≡ true → b ≡ true) → (b ≡ true → a ≡ true) → a ≡ b
+pub same : (a b : Bool) → (a ≡ true → b ≡ true) → (b ≡ true → a ≡ true) → a ≡ b
 same true b there back = sym (there refl)
 same false true there back = back refl
 same false false there back = refl

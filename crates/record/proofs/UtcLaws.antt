@@ -164,11 +164,14 @@ numbered-good rec own e = go (is60 rec) e
     go true e = followed rec own e .0
     go false e = was-done (refusalOf rec) rec own e .0
 
+pub counted-good : (rec : Record) (count : Count) → countOf rec ≡ done count → refusalOf rec ≡ 0
+counted-good rec count e = let n = done-after (numberedAs rec) ownSeconds count e in numbered-good rec (n .0) (n .1)
+
 pub placed : (rec : Record) (count : Count) → countOf rec ≡ done count → Placed rec count
 placed (Dated layout status weekday date time) count e = go (isSixty time && isLastOfCalendar (Dated layout status weekday date time)) refl
   where
     none : datedRefusal layout status weekday date time ≡ 0
-    none = let n = done-after (numberedAs (Dated layout status weekday date time)) ownSeconds count e in numbered-good (Dated layout status weekday date time) (n .0) (n .1)
+    none = counted-good (Dated layout status weekday date time) count e
 
     go : (last : Bool) → (isSixty time && isLastOfCalendar (Dated layout status weekday date time)) ≡ last → Placed (Dated layout status weekday date time) count
     go true last =

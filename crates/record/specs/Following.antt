@@ -1,9 +1,13 @@
--- Document 02, b, "Second 60": what follows one second and another, for every record.
-use mathlib.Core.Bool.{true, false, cond}
+-- Document 02, b, "Second 60": what is said of a second 60 and of what follows it, for every record.
+use mathlib.Core.Bool.{true, false, cond, _&&_}
 use mathlib.Core.Path.{_≡_}
 use Prim.Native.Nat.{ℕ, _≤_}
+use lib.Dec.{eqb}
 use Rattle.refusals.specs.Refusals.{done, refused}
+use Rattle.calendar.specs.Calendar.{dayOf, weekdayOf}
 use Rattle.calendar.specs.Literals.{date, time}
+use Rattle.calendar.specs.declared.date.Date.{Date}
+use Rattle.calendar.specs.declared.time.Time.{Time}
 use Rattle.record.specs.declared.DatedLayout.{DatedLayout}
 use Rattle.record.specs.declared.Status.{Status}
 use Rattle.record.specs.declared.Record.{Record}
@@ -11,9 +15,16 @@ use Rattle.record.specs.declared.Record.the-variants.{Dated}
 use Rattle.record.specs.declared.season.UtcSeconds.{UtcSeconds}
 use Rattle.record.specs.declared.season.Count.{Count}
 use Rattle.record.specs.Season.{secondsLater, secondsIn}
-use Rattle.record.specs.Rule.{refusalOf, is60}
+use Rattle.record.specs.Sixty.{isSixty, at59, endsUtcMonth, takesSixty}
+use Rattle.record.specs.Rule.{statusAllowed, refusalOf, is60}
 use Rattle.record.specs.Next.{nextSecondOf}
 use Rattle.record.specs.Utc.{countOf, utcSeconds}
+
+-- "the same record with second 59, its weekday aside": given the weekday that its date has, its UTC second is the moment that is asked about
+abbrev pub TheSameRecordWith59Decides : Type 0
+TheSameRecordWith59Decides =
+    (layout : DatedLayout) (status : Status) (on : Date) (at : Time) → statusAllowed layout status ≡ true → isSixty at ≡ true
+    → takesSixty status on at ≡ (eqb (at .minute) 59 && endsUtcMonth (utcSeconds (Dated layout status (weekdayOf (dayOf on)) on (at59 at))))
 
 -- "neither makes a 60 by itself": stepping and second advance go by the next second
 abbrev pub NothingMakesASixty : Type 0
