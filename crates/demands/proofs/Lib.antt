@@ -9,6 +9,7 @@ pub mod Demand2Holds
 pub mod Demand2OfReplies
 pub mod Demand3Holds
 pub mod BoundaryHolds
+pub mod SecondSixtyHolds
 pub mod ShutOut
 pub mod ShutOutOfReplies
 pub mod PrintedTablesHold

@@ -12,4 +12,5 @@ pub mod ProgramsOfReplies
 pub mod Wrong
 pub mod WrongOfReplies
 pub mod Boundary
+pub mod SecondSixty
 pub mod PrintedTables

@@ -1,0 +1,31 @@
+-- Document 02, b, holds. Assumes nothing.
+use mathlib.Core.Path.{refl}
+use Rattle.refusals.specs.Refusals.{unless}
+use Rattle.places.specs.Places.{isDecimal, isCapital, codeValue}
+use Rattle.calendar.specs.Calendar.{isLeap, monthLength, monthInRange, dateInRange, dayExists, dateRefusal, monthStart, dayOf, dayNumber, seek, monthHolding, dateAt}
+use Rattle.calendar.specs.TimeOfDay.{timeInRange, timeRefusal, secondsOf, secondOfDay}
+use Rattle.record.specs.Season.{seasonShift, toUtc}
+use Rattle.record.specs.Moment.{momentOf}
+use Rattle.record.specs.Sixty.{sixtyBehind59, takesSixty}
+use Rattle.record.specs.Rule.{plainUtc, tableCanSay, statusAllowed, weekdayAllowed, weekdayAgrees, timeAllowed, timeAloneAllowed, timeAloneRefusal, datedRefusal}
+use Rattle.layouts.specs.Layouts.{placesOf, layoutOf}
+use Rattle.layouts.specs.Coding.{statusIn6021, statusIn5500}
+use Rattle.telegram.specs.Reading.{carried, bodyRefusal, readOf}
+use Rattle.record.proofs.SixtyLaws.{fields-say-the-same}
+use Rattle.record.proofs.FollowingLaws.{same-with-59-decides, sixty-shares, one-without-follower, no-follower-no-number, counts-in-calendar}
+use Rattle.clock.proofs.RunLaws.{last-sixty-gives-12}
+use Rattle.leitch.proofs.RuleLaws.{good, time-good}
+use Rattle.demands.specs.SecondSixty.{TheSixtyTelegramsAreRead, LeitchAnswersStayAt59, SecondSixtyIsAsAskedFor}
+use Rattle.demands.proofs.Demand2Holds.{neither-makes-a-sixty}
+
+sixty-telegrams : TheSixtyTelegramsAreRead
+unfolding unless momentOf sixtyBehind59 takesSixty dayNumber secondOfDay dateRefusal timeRefusal isDecimal isCapital codeValue isLeap monthLength monthInRange dateInRange dayExists monthStart dayOf timeInRange timeAllowed timeAloneAllowed timeAloneRefusal secondsOf plainUtc tableCanSay statusAllowed weekdayAllowed weekdayAgrees datedRefusal seasonShift toUtc placesOf layoutOf statusIn6021 statusIn5500 carried bodyRefusal readOf seek monthHolding dateAt
+sixty-telegrams =
+    ((refl, refl), ((refl, refl), ((refl, refl), ((refl, refl), ((refl, refl), ((refl, refl), ((refl, refl), ((refl, refl), ((refl, refl), ((refl, refl), ((refl, refl), ((refl, refl), ((refl, refl), tt)))))))))))))
+
+leitch-at-59 : LeitchAnswersStayAt59
+leitch-at-59 reply none = time-good reply (good reply none) .to-second
+
+pub second-sixty : SecondSixtyIsAsAskedFor
+second-sixty =
+    (sixty-telegrams, same-with-59-decides, fields-say-the-same, sixty-shares, one-without-follower, no-follower-no-number, counts-in-calendar, last-sixty-gives-12, neither-makes-a-sixty, leitch-at-59)
