@@ -93,18 +93,33 @@ static int weekday_of(int day, int month, int year) {
     return (number + 1) % 7 + 1;
 }
 
+/* Second 60 at the end of a UTC month: 23:59:60 on its last day in UTC, on the next month's first day an hour, in daylight time two,
+   behind midnight, but for the calendar's first. */
+static int takes_60(const struct record *r, int year, int daylight, int utc) {
+    if (r->second != 60 || r->minute != 59 || r->month < 1 || r->month > 12 || year < 1980 || year > 2079)
+        return 0;
+    if (utc)
+        return r->hour == 23 && r->day == days_in(r->month, year);
+    return r->hour == daylight && r->day == 1 && (year != 1980 || r->month != 1);
+}
+
 static int judge(struct record *r) {
+    int late = r->hour > 23 || r->minute > 59 || r->second > 59;
     if (r->layout == L6021T || r->layout == L5500T || r->layout == L5050T)
-        return r->hour > 23 || r->minute > 59 || r->second > 59 ? 6 : 0;
+        return late && (r->hour > 23 || r->minute != 59 || r->second != 60) ? 6 : 0;
+    int daylight, utc;
     if (r->layout == L6021 || r->layout == L2000) {
+        daylight = r->status >> 1 & 1, utc = r->weekday >> 3;
         r->weekday &= 7;
     } else if (r->status > 9) {
         return 5;
+    } else {
+        daylight = r->status >> 2 & 1, utc = r->status >> 3;
     }
     if (r->weekday < 1 || r->weekday > 7)
         return 5;
     int year = r->layout == L2000 ? 100 * r->century + r->year : r->year + (r->year < 80 ? 2000 : 1900);
-    if (r->hour > 23 || r->minute > 59 || r->second > 59)
+    if (late && !takes_60(r, year, daylight, utc))
         return 6;
     if (r->day < 1 || r->day > 31 || r->month < 1 || r->month > 12 || year < 1980 || year > 2079)
         return 6;
