@@ -3,7 +3,7 @@
 pub mod next;
 pub mod rule;
 pub mod season;
-pub mod sixty;
+mod sixty;
 pub mod utc;
 
 use calendar::date::Date;

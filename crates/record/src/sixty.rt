@@ -11,7 +11,7 @@ ghost use Rattle.record.specs.Sixty.{sixtyBehind59, takesSixty, upTo59};
 ghost use Rattle.record.specs.SixtyByFields.{endsInUtc, endsInLocal, sixtyByFields};
 
 // In time-only layouts 60 is accepted when the minute is 59, in any hour of the day: they carry no date that could end a month.
-pub fn behind_59(time: Time) -> bool
+pub(crate) fn behind_59(time: Time) -> bool
     ensures { λ r. ⌜ r ≡ sixtyBehind59 time ⌝ }
 {
     if time.second != 60 {
@@ -84,14 +84,14 @@ fn by_fields(status: Status, date: Date, time: Time) -> bool
 
 // Whether a record with a date may carry this second 60: the minute is 59, and with second 59 it is the last second of a UTC month.
 // False for every other second. The weekday is not asked for.
-pub fn is_taken(status: Status, date: Date, time: Time) -> bool
+pub(crate) fn is_taken(status: Status, date: Date, time: Time) -> bool
     ensures { λ r. ⌜ r ≡ takesSixty status date time ⌝ }
 {
     by_fields(status, date, time)
 }
 
 // The calendar's day has no second 60: it is asked for the 59 before it. Every other time stays as it is.
-pub fn up_to_59(time: Time) -> Time
+pub(crate) fn up_to_59(time: Time) -> Time
     ensures { λ r. ⌜ r ≡ upTo59 time ⌝ }
 {
     if time.second != 60 {
