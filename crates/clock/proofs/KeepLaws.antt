@@ -1,9 +1,9 @@
 -- Laws of what stepping keeps: the layout and the status with the season, and so the distance of its count from UTC. Assumes nothing.
 use mathlib.Core.Path.{_≡_, refl, ap, sym, _∙_}
-use mathlib.Core.Bool.{Bool, true, false, not, cond}
+use mathlib.Core.Bool.{Bool, true, false, cond}
 use Prim.Native.Nat.{ℕ, zero, suc, _+_, _-_, _<_}
 use native.Mathlib.Omega.{arith}
-use Rattle.refusals.specs.Refusals.{_when_, _else_, Outcome, done, refused, unless, after}
+use Rattle.refusals.specs.Refusals.{_when_, _else_, Outcome, done, refused, after}
 use Rattle.refusals.proofs.Laws.{was-done}
 use Rattle.calendar.specs.Calendar.{dayAfter}
 use Rattle.calendar.specs.TimeOfDay.{isLastSecond, timeAfter}

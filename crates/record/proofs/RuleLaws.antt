@@ -1,14 +1,14 @@
 -- Laws of the one rule for a record. Assumes nothing.
-use mathlib.Core.Path.{_≡_, refl, ap, sym, _∙_}
+use mathlib.Core.Path.{_≡_, refl, sym, _∙_}
 use mathlib.Core.Bool.{Bool, true, false, cond, not, _&&_, _||_}
-use Prim.Native.Nat.{ℕ, _+_, _≤_}
+use Prim.Native.Nat.{ℕ, _≤_}
 use native.Mathlib.Omega.{arith}
-use lib.Dec.{leb, eqb}
-use borrow.Author.Tests.{not-false, leb-true, eqb-true, eq-eqb}
+use lib.Dec.{eqb}
+use borrow.Author.Tests.{not-false, eqb-true, eq-eqb}
 use Rattle.refusals.specs.Refusals.{_when_, _else_}
 use Rattle.refusals.proofs.Laws.{both, when-none, else-none, else-assoc}
 use Rattle.calendar.specs.Calendar.{dateInRange, dayExists, dateRefusal, dayOf, weekdayOf}
-use Rattle.calendar.specs.TimeOfDay.{timeInRange, secondsOf}
+use Rattle.calendar.specs.TimeOfDay.{timeInRange}
 use Rattle.calendar.specs.declared.date.Date.{Date}
 use Rattle.calendar.specs.declared.time.Time.{Time}
 use Rattle.calendar.proofs.Times as times

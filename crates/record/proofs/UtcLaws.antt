@@ -23,12 +23,12 @@ use Rattle.record.specs.declared.season.Count.{Count}
 use Rattle.record.specs.declared.season.Count.the-variants.{Local, Utc}
 use Rattle.record.specs.Season.{secondsLater, secondsIn, calendarSeconds, seasonShift, isOutside, toUtc}
 use Rattle.record.specs.Moment.{asMarked, inUtc}
-use Rattle.record.specs.Sixty.{isSixty, at59, upTo59}
+use Rattle.record.specs.Sixty.{isSixty, upTo59}
 use Rattle.record.specs.Rule.{datedRefusal, timeAloneRefusal, refusalOf, is60}
 use Rattle.record.specs.Next.{recordAfter, isLastOfCalendar, nextSecondOf}
 use Rattle.record.specs.Utc.{numberedAs, ownSeconds, countOf, utcSeconds}
 use Rattle.record.proofs.RuleLaws.{good, good-counted}
-use Rattle.record.proofs.NextLaws.{moment-is, After, dated-after, followed, dated-follows, next-good, next-no-sixty}
+use Rattle.record.proofs.NextLaws.{moment-is, followed, dated-follows, next-good, next-no-sixty}
 
 -- what was done one after the other
 pub done-after : {A B : Type 0} (first : Outcome A) (next : A → Outcome B) (result : B) → after first next ≡ done result
@@ -75,10 +75,6 @@ pub time-has-no-count : (layout : TimeLayout) (time : Time) (count : Count) → 
 time-has-no-count layout time count e =
     let no = sym (time-count layout time) ∙ e in
     let z : _≡_ {A = ℕ} 0 1 = cc in absurd (omega arith)
-
--- a record that the rule refuses has no count
-pub count-refused : (rec : Record) (n : ℕ) → numberedAs rec ≡ refused n → refused n ≡ countOf rec
-count-refused rec n e = rw e
 
 -- seconds that are marked are counted as they are, and later as they are later
 pub marked-in : (utc : Bool) (seconds : ℕ) → secondsIn (asMarked utc seconds) ≡ seconds

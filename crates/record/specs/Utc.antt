@@ -1,6 +1,6 @@
 -- Document 01, "Calendar, UTC and the station clock", and document 02, b: the count of a record's seconds, and its UTC seconds.
-use mathlib.Core.Bool.{Bool, cond}
-use Rattle.refusals.specs.Refusals.{_else_, Outcome, done, refused, unless, after}
+use mathlib.Core.Bool.{cond}
+use Rattle.refusals.specs.Refusals.{_else_, Outcome, refused, unless, after}
 use Rattle.record.specs.declared.Record.{Record}
 use Rattle.record.specs.declared.Record.the-variants.{Dated, TimeOnly}
 use Rattle.record.specs.declared.season.UtcSeconds.{UtcSeconds}

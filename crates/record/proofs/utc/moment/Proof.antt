@@ -1,10 +1,10 @@
 -- `record::utc::moment` meets its contract.
-use mathlib.Core.Path.{sym, ap, ap₂, _∙_}
+use mathlib.Core.Path.{sym, ap, _∙_}
 use native.Mathlib.Omega.{arith}
-use Rattle.refusals.specs.Refusals.{done, after}
+use Rattle.refusals.specs.Refusals.{done}
 use Rattle.calendar.specs.Answers.{dayAnswer, secondAnswer}
 use Rattle.calendar.proofs.Laws.{day-number-bound, second-bound}
-use Rattle.record.specs.Moment.{asMarked, momentOf}
+use Rattle.record.specs.Moment.{momentOf}
 use borrow.Author.Needs.{needs}
 use Rattle.record.proofs.utc.moment.Statement.{statement}
 use Rattle.record.proofs.utc.moment.Tie as tie
