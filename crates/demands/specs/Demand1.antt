@@ -86,7 +86,7 @@ abbrev pub TheNextSecondRefuses : Type 0
 TheNextSecondRefuses =
     (rec : Record) → (nextSecondOf rec refusedBy nextSecondRules rec) × (nextSecondOf rec doneOr 5 ∷ 6 ∷ 7 ∷ 8 ∷ 12 ∷ [])
 
--- the count of a record's seconds: 5 to 8, 14
+-- the count of a record's seconds: 5 to 8, 12, 14
 abbrev pub CountingRefuses : Type 0
 CountingRefuses = (rec : Record) → (countOf rec refusedBy countRules rec) × (countOf rec doneOr 5 ∷ 6 ∷ 7 ∷ 8 ∷ 12 ∷ 14 ∷ [])
 
