@@ -1,7 +1,7 @@
 -- Laws of what stepping keeps: the layout and the status with the season, and so the distance of its count from UTC. Assumes nothing.
 use mathlib.Core.Path.{_≡_, refl, ap, sym, _∙_}
 use mathlib.Core.Bool.{Bool, true, false, cond}
-use Prim.Native.Nat.{ℕ, zero, suc, _+_, _-_, _<_}
+use Prim.Native.Nat.{ℕ, zero, suc, _+_, _<_}
 use native.Mathlib.Omega.{arith}
 use Rattle.refusals.specs.Refusals.{_when_, _else_, Outcome, done, refused, after}
 use Rattle.refusals.proofs.Laws.{was-done}
@@ -14,10 +14,11 @@ use Rattle.record.specs.declared.season.UtcSeconds.{UtcSeconds}
 use Rattle.record.specs.declared.season.Count.{Count}
 use Rattle.record.specs.Season.{secondsLater, secondsIn, calendarSeconds}
 use Rattle.record.specs.Sixty.{upTo59}
-use Rattle.record.specs.Rule.{refusalOf, is60}
+use Rattle.record.specs.Rule.{refusalOf}
 use Rattle.record.specs.Next.{weekdayAfter, recordAfter, isLastOfCalendar, nextSecondOf}
 use Rattle.record.specs.Moment.{inUtc}
 use Rattle.record.specs.Utc.{countOf, utcSeconds}
+use Rattle.record.specs.Following.{secondsOn}
 use Rattle.record.proofs.UtcLaws.{seconds-in-later, count-within, had-count, utc-later}
 use Rattle.record.proofs.FollowingLaws.{next-is-later}
 use Rattle.clock.specs.declared.Clock.{Clock}
@@ -73,30 +74,26 @@ utc-goes-along (TimeOnly layout time) next count utc n same here later within e 
 
 -- a step that is made adds its UTC seconds
 utc-step : (clock : Clock) (utc : UtcSeconds) → utcSeconds (clock .rec) ≡ done utc → stepOf clock .answer ≡ answer.Stepped
-    → utcSeconds (stepOf clock .clock .rec) ≡ done (record { 0 = utc .0 + secondsOfSteps 1 (clock .rec) })
+    → utcSeconds (stepOf clock .clock .rec) ≡ done (record { 0 = utc .0 + secondsOn (clock .rec) })
 unfolding stepOf
 utc-step clock utc e = go (clockSecond (clock .rec)) refl
   where
     go : (outcome : Outcome Record) → clockSecond (clock .rec) ≡ outcome → steppedBy clock outcome .answer ≡ answer.Stepped
-        → utcSeconds (steppedBy clock outcome .clock .rec) ≡ done (record { 0 = utc .0 + secondsOfSteps 1 (clock .rec) })
+        → utcSeconds (steppedBy clock outcome .clock .rec) ≡ done (record { 0 = utc .0 + secondsOn (clock .rec) })
     go (done next) is made =
         let follows = second-is-next (clock .rec) next is in
         let had = had-count (clock .rec) utc e in
         let later = next-is-later (clock .rec) next (had .0) follows (had .1) in
-        let within : secondsIn (had .0) + secondsOfSteps 1 (clock .rec) < calendarSeconds =
-        omega (arith, seconds-in-later (had .0) (secondsOfSteps 1 (clock .rec)), count-within next _ later) in
+        let within : secondsIn (had .0) + secondsOn (clock .rec) < calendarSeconds =
+        omega (arith, seconds-in-later (had .0) (secondsOn (clock .rec)), count-within next _ later) in
         utc-goes-along (clock .rec) next (had .0) utc _ (standing-next (clock .rec) next follows) (had .1) later within e
     go (refused n) is made = let z : _≡_ {A = ℕ} 0 1 = cc in absurd (omega arith)
 
 pub steps-add-utc-seconds : StepsAddAsManyUtcSeconds
 unfolding stepped
-steps-add-utc-seconds clock utc zero e made = e ∙ go (is60 (clock .rec))
-  where
-    go : (sixty : Bool) → _≡_ {A = Outcome UtcSeconds} (done utc) (done (record { 0 = utc .0 + cond sixty (0 - 1) 0 }))
-    go true = let same : utc .0 ≡ utc .0 + 0 = omega arith in λ i. done (record { 0 = same i })
-    go false = let same : utc .0 ≡ utc .0 + 0 = omega arith in λ i. done (record { 0 = same i })
+steps-add-utc-seconds clock utc zero e made = e ∙ (let same : utc .0 ≡ utc .0 + 0 = omega arith in λ i. done (record { 0 = same i }))
 steps-add-utc-seconds clock utc (suc n) e made =
     let so-far = steps-add-utc-seconds clock utc n e (λ k below. made k (omega arith)) in
     let step = one-step-more n clock (λ k below. made k (omega arith)) in
-    let more : utc .0 + secondsOfSteps n (clock .rec) + secondsOfSteps 1 (stepped n clock .rec) ≡ utc .0 + secondsOfSteps (suc n) (clock .rec) = omega (arith, step) in
+    let more : utc .0 + secondsOfSteps n (clock .rec) + secondsOn (stepped n clock .rec) ≡ utc .0 + secondsOfSteps (suc n) (clock .rec) = omega (arith, step) in
     utc-step (stepped n clock) (record { 0 = utc .0 + secondsOfSteps n (clock .rec) }) so-far (made n (omega arith)) ∙ (λ i. done (record { 0 = more i }))

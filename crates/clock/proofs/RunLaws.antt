@@ -1,7 +1,7 @@
 -- Laws of a clock that runs: each step adds one second to its count, but from a second 60, up to the end of the calendar. Assumes nothing.
 use mathlib.Core.Path.{_≡_, refl, ap, sym, _∙_}
 use mathlib.Core.Bool.{Bool, true, false, cond, _&&_}
-use Prim.Native.Nat.{ℕ, zero, suc, _+_, _-_, _*_, _<_, _≤_}
+use Prim.Native.Nat.{ℕ, zero, suc, _+_, _*_, _<_, _≤_}
 use native.Mathlib.Omega.{arith}
 use lib.Dec.{ltb, eqb}
 use borrow.Author.Tests.{ltb-true, ltb-false, eqb-true}
@@ -23,12 +23,13 @@ use Rattle.record.specs.Sixty.{isSixty, upTo59}
 use Rattle.record.specs.Rule.{datedRefusal, is60}
 use Rattle.record.specs.Next.{recordAfter, isLastOfCalendar, nextSecondOf}
 use Rattle.record.specs.Utc.{ownSeconds, countOf}
-use Rattle.record.proofs.SixtyLaws.{last-number}
-use Rattle.record.proofs.RuleLaws.{good, good-counted}
+use Rattle.record.specs.Following.{secondsOn}
+use Rattle.record.proofs.SixtyLaws.{never, last-number}
+use Rattle.record.proofs.RuleLaws.{good, good-up-to-59}
 use Rattle.record.proofs.NextLaws.{next-no-sixty}
 use Rattle.record.proofs.UtcLaws.{done-after, followers-number, plain-time, placed, placed-seconds, count-within, none-later, later-still, seconds-in-later}
 use Rattle.record.proofs.FollowingLaws.{next-is-later}
-use Rattle.record.proofs.LastSixtyHolds.{lastSixty, last-next}
+use Rattle.record.proofs.LastSixtyHolds.{last-is-good, lastSixty, last-next}
 use Rattle.clock.specs.declared.Clock.{Clock}
 use Rattle.clock.specs.declared.StepAnswer.the-variants as answer
 use Rattle.clock.specs.Stepping.{clockSecond, steppedBy, stepOf}
@@ -64,18 +65,15 @@ is-last-day date g e = go (isLastDay date) refl
 module _ (layout : DatedLayout) (status : Status) (weekday : ℕ) (date : Date) (time : Time)
     (none : datedRefusal layout status weekday date time ≡ 0) where
   not-last : 86400 * dayOf date + secondsOf (upTo59 time) + 1 < calendarSeconds → isLastOfCalendar (Dated layout status weekday date time) ≡ false
-  not-last before = go (isLastSecond (upTo59 time) && isLastDay date) refl
-    where
-      go : (last : Bool) → (isLastSecond (upTo59 time) && isLastDay date) ≡ last → last ≡ false
-      go true e =
-          let parts = both (isLastSecond (upTo59 time)) (isLastDay date) e in
-          absurd (omega (arith, last-second-is (upTo59 time) (parts .0), last-number date (parts .1)))
-      go false e = refl
+  not-last before =
+      never _ (λ last.
+      let parts = both (isLastSecond (upTo59 time)) (isLastDay date) last in
+      omega (arith, last-second-is (upTo59 time) (parts .0), last-number date (parts .1)))
 
   is-last : 86400 * dayOf date + secondsOf (upTo59 time) + 1 ≡ calendarSeconds → isLastOfCalendar (Dated layout status weekday date time) ≡ true
   is-last end =
       let g = good layout status weekday date time none in
-      let t = good-range (upTo59 time) (good-counted layout status weekday date time g) in
+      let t = good-range (upTo59 time) (good-up-to-59 layout status weekday date time g) in
       let d = date-good date (g .date-good) in
       let second : secondsOf (upTo59 time) ≡ 86399 = omega (arith, seconds-within (upTo59 time) t, day-within date d) in
       let day : dayOf date ≡ 36524 = omega (arith, seconds-within (upTo59 time) t, day-within date d) in
@@ -98,7 +96,7 @@ module _ (layout : DatedLayout) (status : Status) (weekday : ℕ) (date : Date) 
 
 -- A record that has a count and is not the calendar's last has a next second.
 module _ (rec : Record) (count : Count) (counted : countOf rec ≡ done count) where
-  goes : secondsIn count + secondsOfSteps 1 rec < calendarSeconds → (next : Record) × (nextSecondOf rec ≡ done next)
+  goes : secondsIn count + secondsOn rec < calendarSeconds → (next : Record) × (nextSecondOf rec ≡ done next)
   goes before = go (is60 rec) refl before
     where
       go : (sixty : Bool) → is60 rec ≡ sixty → secondsIn count + cond sixty 0 1 < calendarSeconds → (next : Record) × (nextSecondOf rec ≡ done next)
@@ -107,7 +105,7 @@ module _ (rec : Record) (count : Count) (counted : countOf rec ≡ done count) w
           (had .0, had .1)
       go false plain before =
           let p = placed rec count counted in
-          let seconds = placed-seconds rec count counted p in
+          let seconds = placed-seconds p in
           (_, ap nextSecondOf (p .is) ∙ second-follows _ _ _ _ _ (p .none) (ap is60 (sym (p .is)) ∙ plain) (omega arith))
 
 -- One step of a clock with a date.
@@ -125,15 +123,13 @@ last-second-gives-12 clock count counted end = go (is60 (clock .rec)) refl end
     go true sixty end = absurd (omega (arith, count-within (clock .rec) count counted))
     go false plain end =
         let p = placed (clock .rec) count counted in
-        let seconds = placed-seconds (clock .rec) count counted p in
+        let seconds = placed-seconds p in
         let ends = ap nextSecondOf (p .is) ∙ calendar-ends _ _ _ _ _ (p .none) (ap is60 (sym (p .is)) ∙ plain) (omega arith) in
         ap (λ s. s .answer) (sym (second-refused clock 12 ends))
 
 pub last-sixty-gives-12 : TheLastSixtyGives12
-unfolding nextSecondOf unless upTo59 isLastSecond isLastDay
-last-sixty-gives-12 clock layout status is none =
-    let ends : nextSecondOf (clock .rec) ≡ refused 12 = rw (none, is) in
-    ap (λ s. s .answer) (sym (second-refused clock 12 ends))
+last-sixty-gives-12 clock layout status marked fine is =
+    ap (λ s. s .answer) (sym (second-refused clock 12 (ap nextSecondOf is ∙ last-is-good layout status marked fine .1)))
 
 pub last-as-printed : TheLastSixtyIsAsPrinted
 last-as-printed = sym (second-refused (record { rec = lastSixty }) 12 last-next)
@@ -150,40 +146,28 @@ step-makes-no-sixty clock = go (clockSecond (clock .rec)) refl
 
 -- one step more adds one second more, but the first from a second 60
 pub one-step-more : (n : ℕ) (clock : Clock) → EachIsMade n clock
-    → secondsOfSteps n (clock .rec) + secondsOfSteps 1 (stepped n clock .rec) ≡ secondsOfSteps (suc n) (clock .rec)
+    → secondsOfSteps n (clock .rec) + secondsOn (stepped n clock .rec) ≡ secondsOfSteps (suc n) (clock .rec)
 unfolding stepped
-one-step-more zero clock made = go (is60 (clock .rec))
-  where
-    go : (sixty : Bool) → cond sixty (0 - 1) 0 + cond sixty (1 - 1) 1 ≡ cond sixty (1 - 1) 1
-    go true = refl
-    go false = refl
+one-step-more zero clock made = omega arith
 one-step-more (suc n) clock made =
     let plain = step-makes-no-sixty (stepped n clock) (made n (omega arith)) in
-    rw plain (go (is60 (clock .rec)))
-  where
-    go : (sixty : Bool) → cond sixty (suc n - 1) (suc n) + 1 ≡ cond sixty (suc (suc n) - 1) (suc (suc n))
-    go true = omega arith
-    go false = omega arith
+    rw plain (omega arith)
 
 -- Any number of steps of a clock with a date that stays in the calendar.
 module _ (clock : Clock) (count : Count) (counted : countOf (clock .rec) ≡ done count) where
   after-steps : (n : ℕ) → secondsIn count + secondsOfSteps n (clock .rec) < calendarSeconds
       → EachIsMade n clock × (countOf (stepped n clock .rec) ≡ done (secondsLater (secondsOfSteps n (clock .rec)) count))
   unfolding stepped
-  after-steps zero before = ((λ k below. absurd (omega arith)), counted ∙ ap done (sym (none-later count) ∙ ap (λ n. secondsLater n count) (go (is60 (clock .rec)))))
-    where
-      go : (sixty : Bool) → 0 ≡ cond sixty (0 - 1) 0
-      go true = refl
-      go false = refl
+  after-steps zero before = ((λ k below. absurd (omega arith)), counted ∙ ap done (sym (none-later count)))
   after-steps (suc n) before =
-      let so-far = after-steps n (omega (arith, fewer (is60 (clock .rec)))) in
+      let so-far = after-steps n (omega (arith, fewer n)) in
       let more = one-step-more n clock (so-far .0) in
       let step = step-adds-a-second (stepped n clock) (secondsLater (secondsOfSteps n (clock .rec)) count) (so-far .1) (omega (arith, seconds-in-later count (secondsOfSteps n (clock .rec)), more)) in
-      (each (so-far .0) (step .0), step .1 ∙ ap done (later-still count (secondsOfSteps n (clock .rec)) (secondsOfSteps 1 (stepped n clock .rec)) ∙ ap (λ k. secondsLater k count) more))
+      (each (so-far .0) (step .0), step .1 ∙ ap done (later-still count (secondsOfSteps n (clock .rec)) (secondsOn (stepped n clock .rec)) ∙ ap (λ k. secondsLater k count) more))
     where
-      fewer : (sixty : Bool) → cond sixty (n - 1) n ≤ cond sixty (suc n - 1) (suc n)
-      fewer true = omega arith
-      fewer false = omega arith
+      fewer : (n : ℕ) → secondsOfSteps n (clock .rec) ≤ secondsOfSteps (suc n) (clock .rec)
+      fewer zero = omega arith
+      fewer (suc n) = omega arith
 
       each : EachIsMade n clock → stepOf (stepped n clock) .answer ≡ answer.Stepped → EachIsMade (suc n) clock
       each before here k below = go (ltb k n) refl

@@ -1,7 +1,7 @@
 -- Document 01, "Calendar, UTC and the station clock", and document 02, b: a clock that runs, what its steps add, and what they keep.
 use mathlib.Core.Path.{_≡_}
-use mathlib.Core.Bool.{false, cond}
-use Prim.Native.Nat.{ℕ, zero, suc, _+_, _-_, _<_}
+use mathlib.Core.Bool.{true, false}
+use Prim.Native.Nat.{ℕ, zero, suc, _+_, _<_}
 use Rattle.refusals.specs.Refusals.{done, refused}
 use Rattle.calendar.specs.Literals.{date, time}
 use Rattle.record.specs.declared.DatedLayout.{DatedLayout}
@@ -12,34 +12,32 @@ use Rattle.record.specs.declared.Record.the-variants.{Dated, TimeOnly}
 use Rattle.record.specs.declared.season.UtcSeconds.{UtcSeconds}
 use Rattle.record.specs.declared.season.Count.{Count}
 use Rattle.record.specs.Season.{secondsLater, secondsIn, calendarSeconds}
-use Rattle.record.specs.Rule.{refusalOf, is60}
+use Rattle.record.specs.Rule.{statusAllowed, is60}
 use Rattle.record.specs.Utc.{countOf, utcSeconds}
+use Rattle.record.specs.Following.{secondsOn}
 use Rattle.clock.specs.declared.Clock.{Clock}
 use Rattle.clock.specs.declared.StepAnswer.the-variants as answer
 use Rattle.clock.specs.Stepping.{stepOf}
 use Rattle.clock.specs.Answers.{stepAnswer}
 
--- how many seconds so many steps add: one each, but the first from a second 60, whose number its follower shares
-abbrev pub secondsOfSteps : ℕ → Record → ℕ
-secondsOfSteps n rec = cond (is60 rec) (n - 1) n
-
--- "the station clock is stepped by one second": up to the calendar's last second the step is made, and adds its second to the count
+-- "the station clock is stepped by one second": up to the calendar's last second the step is made, and adds one second to the count,
+-- but from a second 60 none, whose number its follower shares
 abbrev pub AStepAddsOneSecond : Type 0
 AStepAddsOneSecond =
-    (clock : Clock) (count : Count) → countOf (clock .rec) ≡ done count → secondsIn count + secondsOfSteps 1 (clock .rec) < calendarSeconds
-    → (stepOf clock .answer ≡ answer.Stepped) × (countOf (stepOf clock .clock .rec) ≡ done (secondsLater (secondsOfSteps 1 (clock .rec)) count))
+    (clock : Clock) (count : Count) → countOf (clock .rec) ≡ done count → secondsIn count + secondsOn (clock .rec) < calendarSeconds
+    → (stepOf clock .answer ≡ answer.Stepped) × (countOf (stepOf clock .clock .rec) ≡ done (secondsLater (secondsOn (clock .rec)) count))
 
 -- "12 after 31.12.2079 23:59:59"
 abbrev pub TheLastSecondGives12 : Type 0
 TheLastSecondGives12 =
-    (clock : Clock) (count : Count) → countOf (clock .rec) ≡ done count → secondsIn count + secondsOfSteps 1 (clock .rec) ≡ calendarSeconds
+    (clock : Clock) (count : Count) → countOf (clock .rec) ≡ done count → secondsIn count + secondsOn (clock .rec) ≡ calendarSeconds
     → stepOf clock .answer ≡ answer.Refused 12
 
 -- "with 12 after 31.12.2079 23:59:60 too"
 abbrev pub TheLastSixtyGives12 : Type 0
 TheLastSixtyGives12 =
-    (clock : Clock) (layout : DatedLayout) (status : Status) → clock .rec ≡ Dated layout status 7 (date 2079 12 31) (time 23 59 60)
-    → refusalOf (clock .rec) ≡ 0 → stepOf clock .answer ≡ answer.Refused 12
+    (clock : Clock) (layout : DatedLayout) (status : Status) → status .utc ≡ true → statusAllowed layout status ≡ true
+    → clock .rec ≡ Dated layout status 7 (date 2079 12 31) (time 23 59 60) → stepOf clock .answer ≡ answer.Refused 12
 
 -- "neither makes a 60 by itself": a clock that a step has moved
 abbrev pub NoStepMakesASixty : Type 0
@@ -58,6 +56,11 @@ stepped (suc n) clock = stepOf (stepped n clock) .clock
 -- so many steps, each of which is made
 abbrev pub EachIsMade : ℕ → Clock → Type 0
 EachIsMade n clock = (k : ℕ) → k < n → stepOf (stepped k clock) .answer ≡ answer.Stepped
+
+-- how many seconds so many steps add to a record: the first what it goes on by, as no step makes a 60 each other one
+abbrev pub secondsOfSteps : ℕ → Record → ℕ
+secondsOfSteps zero rec = 0
+secondsOfSteps (suc n) rec = secondsOn rec + n
 
 -- n steps that end in the calendar are made, each of them, and add their seconds to the count
 abbrev pub StepsAddAsManySeconds : Type 0

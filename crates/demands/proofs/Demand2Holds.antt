@@ -5,10 +5,10 @@ use mathlib.Core.List.{List}
 use Prim.Native.Nat.{ℕ, zero, suc, _+_, _%_, _≤_}
 use native.Mathlib.Omega.{arith}
 use lib.ListN.{length}
-use Rattle.refusals.specs.Refusals.{done, unless, after}
+use Rattle.refusals.specs.Refusals.{done, refused, unless, after}
 use Rattle.refusals.proofs.Laws.{does}
 use Rattle.laying.specs.Laying.{within, laidIn}
-use Rattle.laying.proofs.LayingLaws.{within-fits, within-done}
+use Rattle.laying.proofs.LayingLaws.{within-fits, within-done, within-refused}
 use Rattle.places.specs.Places.{render}
 use Rattle.calendar.specs.TimeOfDay.{secondsOf, timeAfter, isLastSecond}
 use Rattle.calendar.proofs.Times as times
@@ -17,7 +17,7 @@ use Rattle.record.specs.declared.Record.{Record}
 use Rattle.record.specs.Sixty.{isSixty, upTo59}
 use Rattle.record.specs.Rule.{refusalOf}
 use Rattle.record.specs.Next.{nextSecondOf}
-use Rattle.record.proofs.RuleLaws.{alone-counted}
+use Rattle.record.proofs.RuleLaws.{alone-up-to-59}
 use Rattle.record.proofs.NextLaws.{next-no-sixty}
 use Rattle.record.proofs.UtcLaws.{sixty-second, plain-time}
 use Rattle.record.proofs.FollowingLaws.{next-is-later}
@@ -109,7 +109,7 @@ demand-2-one-later-in-a-day layout time none =
     (timeAfter (upTo59 time), rw none (does _ refl), later (isSixty time) refl (isLastSecond (upTo59 time)) next)
   where
     g : times.Good (upTo59 time)
-    g = times.good-range (upTo59 time) (alone-counted time none)
+    g = times.good-range (upTo59 time) (alone-up-to-59 time none)
 
     next : Follows (upTo59 time) (timeAfter (upTo59 time)) (isLastSecond (upTo59 time))
     next = time-after (upTo59 time) g
@@ -124,6 +124,11 @@ demand-2-one-later-in-a-day layout time none =
     later sixty is true f =
         rw (← here sixty is) (omega (arith, f .second, seconds-within (timeAfter (upTo59 time)) (f .good), seconds-within (upTo59 time) g))
     later sixty is false f = rw (← here sixty is) (omega (arith, f .second, seconds-within (timeAfter (upTo59 time)) (f .good)))
+
+-- where there is no next second, second advance writes nothing
+pub second-refused-is-not-advanced : (control : Bool) (rec : Record) (room : ℕ) → nextSecondOf rec ≡ refused 12 → written (advanced control) rec room ≡ refused 12
+unfolding telegramFor
+second-refused-is-not-advanced control rec room e = rw e (within-refused room 12)
 
 pub neither-makes-a-sixty : NeitherMakesASixty
 neither-makes-a-sixty =

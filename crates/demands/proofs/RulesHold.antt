@@ -1,6 +1,6 @@
 -- When each entry point refuses: by the first of its rules that holds. Assumes nothing.
 use mathlib.Core.Path.{_≡_, refl, ap, sym, _∙_}
-use mathlib.Core.Bool.{Bool, true, false, cond, not, _&&_, _||_}
+use mathlib.Core.Bool.{Bool, true, false, cond, not, _&&_, _||_, and-false}
 use mathlib.Core.List.{List, [], _∷_, _++_, map, append-assoc}
 use Prim.Native.Nat.{ℕ, _+_, _*_}
 use native.Mathlib.Omega.{arith}
@@ -20,7 +20,7 @@ use Rattle.record.specs.Moment.{asMarked}
 use Rattle.record.specs.Sixty.{isSixty, sixtyBehind59, takesSixty, upTo59}
 use Rattle.record.specs.Rule.{statusAllowed, weekdayAllowed, weekdayAgrees, timeAllowed, timeAloneAllowed, timeAloneRefusal, datedRefusal, refusalOf, carriesDate}
 use Rattle.record.specs.Next.{weekdayAfter, recordAfter, isLastOfCalendar, nextSecondOf}
-use Rattle.record.specs.Utc.{countOf, utcSeconds}
+use Rattle.record.specs.Utc.{noneFollows, countOf, utcSeconds}
 use Rattle.record.proofs.UtcLaws.{time-count, count-lowest-first, utc-lowest-first}
 use Rattle.layouts.specs.declared.Layout.{Layout}
 use Rattle.layouts.specs.Layouts.{placesOf, ownLayout, layoutOf}
@@ -34,7 +34,7 @@ use Rattle.clock.specs.Answers.{stepAnswer}
 use Rattle.clock.proofs.StepLaws.{lowest-first}
 use Rattle.demands.specs.Lengths.{sevenLayouts, lengthOf}
 use Rattle.demands.specs.Numbers.{Rule, _givenWhen_, among, firstOf, _byFirst_}
-use Rattle.demands.specs.Rules.{recordRules, rulesIn, readingRules, nextSecondRules, writingRules, noneFollows, countRules, isBeforeUtc, utcRules, stepRules}
+use Rattle.demands.specs.Rules.{recordRules, rulesIn, readingRules, nextSecondRules, writingRules, countRules, isBeforeUtc, utcRules, stepRules}
 use Rattle.demands.proofs.TableLengths.{telegram-length, found, length-in-table}
 use Rattle.demands.proofs.Refusing.{else-nothing, first-of-both, unless-by, then-by}
 
@@ -159,17 +159,11 @@ writing-rules Unnamed rec room =
     ∙ then-by (refusalOf rec) rec (λ good. after (as6021 good) (λ r. within room (done (telegramOf false r)))) (recordRules rec) _ (record-rules rec) (unnamed rec room)
 
 -- a count of seconds, UTC seconds and the station clock
-no-date : (wrong sixty : Bool) → refused (6 when wrong else 14) ≡ unless {A = Unit {0}} (6 when wrong else 12 when (sixty && false) else 14) tt
+no-date : (wrong outside : Bool) → outside ≡ false
+    → refused (6 when wrong else 14) ≡ unless {A = Unit {0}} (6 when wrong else 12 when outside else 14) tt
 unfolding unless
-no-date true sixty = refl
-no-date false true = refl
-no-date false false = refl
-
-no-date-in-utc : (wrong sixty : Bool) → refused (6 when wrong else 14) ≡ unless {A = Unit {0}} (6 when wrong else 12 when (sixty && false || false) else 14) tt
-unfolding unless
-no-date-in-utc true sixty = refl
-no-date-in-utc false true = refl
-no-date-in-utc false false = refl
+no-date true outside e = refl
+no-date false outside e = rw e
 
 pub count-rules : (rec : Record) → countOf rec byFirst countRules rec
 unfolding timeAloneRefusal timeAloneAllowed
@@ -180,7 +174,7 @@ count-rules (Dated layout status weekday date time) =
     ∙ unless-by (refusalOf rec else last) (asMarked (status .utc) (86400 * dayOf date + secondsOf time)) (countRules rec)
     (behind-record rec last (12 givenWhen noneFollows rec ∷ 14 givenWhen false ∷ []) (sym (else-nothing last)))
 count-rules (TimeOnly layout time) =
-    ap (λ o. after o (λ v. done tt)) (time-count layout time) ∙ no-date (not (timeInRange time || sixtyBehind59 time)) (isSixty time)
+    ap (λ o. after o (λ v. done tt)) (time-count layout time) ∙ no-date (not (timeInRange time || sixtyBehind59 time)) _ (and-false (isSixty time))
 
 pub utc-rules : (rec : Record) → utcSeconds rec byFirst utcRules rec
 unfolding timeAloneRefusal timeAloneAllowed
@@ -189,7 +183,8 @@ utc-rules (Dated layout status weekday date time) =
     let outside = 12 when (noneFollows rec || isBeforeUtc rec) in
     utc-lowest-first layout status weekday date time
     ∙ ap (λ n. unless n tt) (behind-record rec outside (12 givenWhen (noneFollows rec || isBeforeUtc rec) ∷ 14 givenWhen false ∷ []) (sym (else-nothing outside)))
-utc-rules (TimeOnly layout time) = no-date-in-utc (not (timeInRange time || sixtyBehind59 time)) (isSixty time)
+utc-rules (TimeOnly layout time) =
+    no-date (not (timeInRange time || sixtyBehind59 time)) (isSixty time && false || false) (rw (and-false (isSixty time)))
 
 pub step-rules : (clock : Clock) → stepAnswer (stepOf clock .answer) byFirst stepRules (clock .rec)
 step-rules clock =

@@ -12,20 +12,25 @@ use Rattle.layouts.specs.Layouts.{placesOf, layoutOf}
 use Rattle.layouts.specs.Coding.{statusIn6021, statusIn5500}
 use Rattle.telegram.specs.Reading.{carried, bodyRefusal, readOf}
 use Rattle.record.proofs.SixtyLaws.{fields-say-the-same}
-use Rattle.record.proofs.FollowingLaws.{same-with-59-decides, sixty-shares, one-without-follower, no-follower-no-number, counts-in-calendar}
+use Rattle.record.proofs.FollowingLaws.{accepted-exactly, sixty-goes-to-00, same-with-59-decides, sixty-shares, one-without-follower, no-follower-no-number, counts-in-calendar}
+use Rattle.record.proofs.LastSixtyHolds.{last-is-good}
 use Rattle.clock.proofs.RunLaws.{last-sixty-gives-12}
 use Rattle.leitch.proofs.RuleLaws.{good, time-good}
-use Rattle.demands.specs.SecondSixty.{TheSixtyTelegramsAreRead, LeitchAnswersStayAt59, SecondSixtyIsAsAskedFor}
-use Rattle.demands.proofs.Demand2Holds.{neither-makes-a-sixty}
+use Rattle.demands.specs.SecondSixty.{TheSixtyTelegramsAreRead, LeitchAnswersStayAt59, TheLastSixtyIsNotAdvanced, SecondSixtyIsAsAskedFor}
+use Rattle.demands.proofs.Demand2Holds.{second-refused-is-not-advanced, neither-makes-a-sixty}
 
 sixty-telegrams : TheSixtyTelegramsAreRead
 unfolding unless momentOf sixtyBehind59 takesSixty dayNumber secondOfDay dateRefusal timeRefusal isDecimal isCapital codeValue isLeap monthLength monthInRange dateInRange dayExists monthStart dayOf timeInRange timeAllowed timeAloneAllowed timeAloneRefusal secondsOf plainUtc tableCanSay statusAllowed weekdayAllowed weekdayAgrees datedRefusal seasonShift toUtc placesOf layoutOf statusIn6021 statusIn5500 carried bodyRefusal readOf seek monthHolding dateAt
 sixty-telegrams =
-    ((refl, refl), ((refl, refl), ((refl, refl), ((refl, refl), ((refl, refl), ((refl, refl), ((refl, refl), ((refl, refl), ((refl, refl), ((refl, refl), ((refl, refl), ((refl, refl), ((refl, refl), tt)))))))))))))
+    ((refl, refl), ((refl, refl), ((refl, refl), ((refl, refl), ((refl, refl), ((refl, refl), ((refl, refl), ((refl, refl), ((refl, refl), ((refl, refl), ((refl, refl), ((refl, refl), ((refl, refl), ((refl, refl), ((refl, refl), tt)))))))))))))))
 
 leitch-at-59 : LeitchAnswersStayAt59
 leitch-at-59 reply none = time-good reply (good reply none) .to-second
 
+last-not-advanced : TheLastSixtyIsNotAdvanced
+last-not-advanced control layout status room marked fine =
+    second-refused-is-not-advanced control _ room (last-is-good layout status marked fine .1)
+
 pub second-sixty : SecondSixtyIsAsAskedFor
 second-sixty =
-    (sixty-telegrams, same-with-59-decides, fields-say-the-same, sixty-shares, one-without-follower, no-follower-no-number, counts-in-calendar, last-sixty-gives-12, neither-makes-a-sixty, leitch-at-59)
+    (sixty-telegrams, accepted-exactly, same-with-59-decides, fields-say-the-same, sixty-shares, one-without-follower, last-is-good, no-follower-no-number, counts-in-calendar, sixty-goes-to-00, last-sixty-gives-12, last-not-advanced, neither-makes-a-sixty, leitch-at-59)

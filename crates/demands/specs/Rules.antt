@@ -15,8 +15,9 @@ use Rattle.record.specs.declared.Record.the-variants.{Dated, TimeOnly}
 use Rattle.record.specs.declared.season.LocalSeconds.{LocalSeconds}
 use Rattle.record.specs.Season.{seasonShift}
 use Rattle.record.specs.Sixty.{sixtyBehind59, takesSixty}
-use Rattle.record.specs.Rule.{statusAllowed, weekdayAllowed, weekdayAgrees, carriesDate, is60}
+use Rattle.record.specs.Rule.{statusAllowed, weekdayAllowed, weekdayAgrees, carriesDate}
 use Rattle.record.specs.Next.{isLastOfCalendar}
+use Rattle.record.specs.Utc.{noneFollows}
 use Rattle.layouts.specs.declared.Layout.{Layout}
 use Rattle.layouts.specs.Layouts.{placesOf, ownLayout, layoutOf}
 use Rattle.telegram.specs.declared.write.Choice.{Choice}
@@ -81,9 +82,6 @@ writingRules Unnamed rec room =
     recordRules rec ++ 13 givenWhen (carriesDate rec && ltb room 16) ∷ 14 givenWhen not (carriesDate rec) ∷ []
 
 -- the count of a record's seconds: 12 for a second 60 that none follows, 14 "a date is needed and the layout carries none"
-abbrev pub noneFollows : Record → Bool
-noneFollows rec = is60 rec && isLastOfCalendar rec
-
 abbrev pub countRules : Record → List Rule
 countRules rec = recordRules rec ++ 12 givenWhen noneFollows rec ∷ 14 givenWhen not (carriesDate rec) ∷ []
 

@@ -56,7 +56,7 @@ pub record-back : (rec : Record) → refusalOf rec ≡ 0 → recordIn (ownLayout
 record-back (Dated layout status weekday date time) none =
     let g = rule.good layout status weekday date time none in
     let d = dates.good date (g .date-good) in
-    let t = rule.within time (rule.good-counted layout status weekday date time g) in
+    let t = rule.within time (rule.good-up-to-59 layout status weekday date time g) in
     let w = weekday-bound weekday (g .weekday-allowed) in
     let m = month-28-to-31 (date .year) (date .month) .1 in
     λ i. Dated layout (status-back layout status weekday (g .status-allowed) i) (weekday-back layout status weekday w i)
@@ -66,7 +66,7 @@ record-back (Dated layout status weekday date time) none =
       day = pair-back (date .day) (omega (arith, d .to-day)) i;
     })
     (time-back time t i)
-record-back (TimeOnly layout time) none = ap (TimeOnly layout) (time-back time (rule.within time (rule.alone-counted time none)))
+record-back (TimeOnly layout time) none = ap (TimeOnly layout) (time-back time (rule.within time (rule.alone-up-to-59 time none)))
 
 -- A record's digits are 0 in each slot that its layout does not use.
 abbrev idle : Bool → ℕ → Type 0
@@ -121,7 +121,7 @@ small-fields layout status weekday date time none =
       century-top = omega (arith, century-small layout (date .year), d);
       day-top = omega (arith, d .to-day);
       month-top = omega (arith, d);
-      time-within = rule.within time (rule.good-counted layout status weekday date time g);
+      time-within = rule.within time (rule.good-up-to-59 layout status weekday date time g);
     }
 
 digits-shown : (rec : Record) → refusalOf rec ≡ 0 → allShown (digitsOut rec) (placesOf (ownLayout rec))
@@ -130,9 +130,9 @@ digits-shown (Dated L6021 status weekday date time) none = omega (arith, small-f
 digits-shown (Dated L2000 status weekday date time) none = omega (arith, small-fields L2000 status weekday date time none)
 digits-shown (Dated L5500 status weekday date time) none = omega (arith, small-fields L5500 status weekday date time none)
 digits-shown (Dated L5050 status weekday date time) none = omega (arith, small-fields L5050 status weekday date time none)
-digits-shown (TimeOnly T6021 time) none = omega (arith, rule.within time (rule.alone-counted time none))
-digits-shown (TimeOnly T5500 time) none = omega (arith, rule.within time (rule.alone-counted time none))
-digits-shown (TimeOnly T5050 time) none = omega (arith, rule.within time (rule.alone-counted time none))
+digits-shown (TimeOnly T6021 time) none = omega (arith, rule.within time (rule.alone-up-to-59 time none))
+digits-shown (TimeOnly T5500 time) none = omega (arith, rule.within time (rule.alone-up-to-59 time none))
+digits-shown (TimeOnly T5050 time) none = omega (arith, rule.within time (rule.alone-up-to-59 time none))
 
 digits-size : (rec : Record) → length (digitsOut rec) ≡ slots
 digits-size (Dated layout status weekday date time) = refl

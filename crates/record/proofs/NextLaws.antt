@@ -24,7 +24,7 @@ use Rattle.record.specs.Rule.{weekdayAllowed, datedRefusal, timeAloneRef
 use Rattle.record.specs.Next.{weekdayAfter, recordAfter, isLastOfCalendar, nextSecondOf}
 use Rattle.record.specs.Utc.{ownSeconds}
 use Rattle.record.specs.Following.{NothingMakesASixty}
-use Rattle.record.proofs.RuleLaws.{Good, good, not-refused, good-counted, alone-counted, range-allowed, range-alone, range-no-sixty}
+use Rattle.record.proofs.RuleLaws.{Good, good, not-refused, good-up-to-59, alone-up-to-59, range-allowed, range-alone, range-no-sixty}
 
 -- what the calendar says of the next second of a time
 told : (time next : Time) (carry : Bool) → nextSecond time ≡ done (next, carry)
@@ -97,7 +97,7 @@ module _ (layout : DatedLayout) (status : Status) (weekday : ℕ) (date : Date) 
     g = good layout status weekday date time none
 
     t : Follows (upTo59 time) (timeAfter (upTo59 time)) (isLastSecond (upTo59 time))
-    t = time-after (upTo59 time) (good-range (upTo59 time) (good-counted layout status weekday date time g))
+    t = time-after (upTo59 time) (good-range (upTo59 time) (good-up-to-59 layout status weekday date time g))
 
     range : timeInRange (timeAfter (upTo59 time)) ≡ true
     range = in-range (timeAfter (upTo59 time)) (t .good)
@@ -169,7 +169,7 @@ dated-follows layout status weekday date time next e =
 
 -- the time behind a time that is allowed alone is one of the day
 alone-after : (time : Time) → timeAloneRefusal time ≡ 0 → timeInRange (timeAfter (upTo59 time)) ≡ true
-alone-after time none = in-range _ (time-after (upTo59 time) (good-range (upTo59 time) (alone-counted time none)) .good)
+alone-after time none = in-range _ (time-after (upTo59 time) (good-range (upTo59 time) (alone-up-to-59 time none)) .good)
 
 -- the next second of a record is good, and no second 60
 pub next-good : (rec next : Record) → nextSecondOf rec ≡ done next → refusalOf next ≡ 0

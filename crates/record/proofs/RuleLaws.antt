@@ -15,6 +15,7 @@ use Rattle.calendar.proofs.Times as times
 use Rattle.record.specs.declared.DatedLayout.{DatedLayout}
 use Rattle.record.specs.declared.Status.{Status}
 use Rattle.record.specs.Sixty.{isSixty, at59, sixtyBehind59, takesSixty, upTo59}
+use Rattle.record.proofs.SixtyLaws.{never}
 use Rattle.record.specs.Rule.{statusAllowed, weekdayAllowed, weekdayAgrees, timeAllowed, timeAloneAllowed, timeAloneRefusal, datedRefusal}
 
 -- A time that is allowed, with a date or alone: the calendar has the time up to 59.
@@ -24,9 +25,9 @@ module _ (time : Time) where
       let second : time .second ≡ 60 = eqb-true _ _ sixty in
       absurd (omega (arith, times.good-range time e))
 
-  counted : (taken : Bool) → (taken ≡ true → sixtyBehind59 time ≡ true) → (timeInRange time || taken) ≡ true → timeInRange (upTo59 time) ≡ true
+  up-to-59 : (taken : Bool) → (taken ≡ true → sixtyBehind59 time ≡ true) → (timeInRange time || taken) ≡ true → timeInRange (upTo59 time) ≡ true
   unfolding sixtyBehind59 upTo59
-  counted taken behind allowed = go (isSixty time) refl (timeInRange time) refl taken refl allowed
+  up-to-59 taken behind allowed = go (isSixty time) refl (timeInRange time) refl taken refl allowed
     where
       go : (sixty : Bool) → isSixty time ≡ sixty → (range : Bool) → timeInRange time ≡ range → (t : Bool) → taken ≡ t
           → (range || t) ≡ true → timeInRange (cond sixty (at59 time) time) ≡ true
@@ -37,13 +38,13 @@ module _ (time : Time) where
           let not = sym sixty ∙ both (isSixty time) _ (behind (is ∙ allowed)) .0 in
           let z : _≡_ {A = ℕ} 0 1 = cc in absurd (omega arith)
 
-  pub alone-counted : timeAloneRefusal time ≡ 0 → timeInRange (upTo59 time) ≡ true
+  pub alone-up-to-59 : timeAloneRefusal time ≡ 0 → timeInRange (upTo59 time) ≡ true
   unfolding timeAloneRefusal timeAloneAllowed
-  alone-counted none = counted (sixtyBehind59 time) (λ behind. behind) (not-false _ (when-none 5 _ none))
+  alone-up-to-59 none = up-to-59 (sixtyBehind59 time) (λ behind. behind) (not-false _ (when-none 5 _ none))
 
-  pub allowed-counted : (status : Status) (date : Date) → timeAllowed status date time ≡ true → timeInRange (upTo59 time) ≡ true
+  pub allowed-up-to-59 : (status : Status) (date : Date) → timeAllowed status date time ≡ true → timeInRange (upTo59 time) ≡ true
   unfolding timeAllowed takesSixty
-  allowed-counted status date allowed = counted (takesSixty status date time) (λ taken. both _ _ taken .0) allowed
+  allowed-up-to-59 status date allowed = up-to-59 (takesSixty status date time) (λ taken. both _ _ taken .0) allowed
 
 -- the digits of a time that is allowed: its second is at most 60
 pub record Within (time : Time) : Type 0 where
@@ -102,31 +103,42 @@ module _ (layout : DatedLayout) (status : Status) (weekday : ℕ) (date : Date) 
       rw (date-decides (g .status-allowed) (g .weekday-allowed) (g .time-allowed), g .date-good, eq-eqb _ _ (g .weekday-agrees))
 
   -- its time up to 59 is one that the calendar has
-  pub good-counted : Good → timeInRange (upTo59 time) ≡ true
-  good-counted g = allowed-counted time status date (g .time-allowed)
+  pub good-up-to-59 : Good → timeInRange (upTo59 time) ≡ true
+  good-up-to-59 g = allowed-up-to-59 time status date (g .time-allowed)
 
 -- a time that the calendar has is allowed with any date, and is no second 60
 pub range-allowed : (status : Status) (date : Date) (time : Time) → timeInRange time ≡ true → timeAllowed status date time ≡ true
 unfolding timeAllowed
 range-allowed status date time e = rw e
 
+pub taken-allowed : (status : Status) (date : Date) (time : Time) → takesSixty status date time ≡ true → timeAllowed status date time ≡ true
+unfolding timeAllowed
+taken-allowed status date time e = go (timeInRange time)
+  where
+    go : (range : Bool) → (range || takesSixty status date time) ≡ true
+    go true = refl
+    go false = e
+
 pub range-alone : (time : Time) → timeInRange time ≡ true → timeAloneRefusal time ≡ 0
 unfolding timeAloneRefusal timeAloneAllowed
 range-alone time e = rw e
 
 pub range-no-sixty : (time : Time) → timeInRange time ≡ true → isSixty time ≡ false
-range-no-sixty time e = go (isSixty time) refl
-  where
-    go : (sixty : Bool) → isSixty time ≡ sixty → sixty ≡ false
-    go true sixty = absurd (no-sixty time e sixty)
-    go false sixty = refl
+range-no-sixty time e = never _ (no-sixty time e)
 
 -- a second 60 that is allowed is one that is taken
+taken-by : (time : Time) (taken : Bool) → (timeInRange time || taken) ≡ true → isSixty time ≡ true → taken ≡ true
+taken-by time taken allowed sixty = go (timeInRange time) refl allowed
+  where
+    go : (range : Bool) → timeInRange time ≡ range → (range || taken) ≡ true → taken ≡ true
+    go true range allowed = absurd (no-sixty time range sixty)
+    go false range allowed = allowed
+
 pub sixty-taken : (status : Status) (date : Date) (time : Time) → timeAllowed status date time ≡ true → isSixty time ≡ true
     → takesSixty status date time ≡ true
 unfolding timeAllowed
-sixty-taken status date time allowed sixty = go (timeInRange time) refl allowed
-  where
-    go : (range : Bool) → timeInRange time ≡ range → (range || takesSixty status date time) ≡ true → takesSixty status date time ≡ true
-    go true range allowed = absurd (no-sixty time range sixty)
-    go false range allowed = allowed
+sixty-taken status date time allowed sixty = taken-by time (takesSixty status date time) allowed sixty
+
+pub alone-sixty : (time : Time) → timeAloneRefusal time ≡ 0 → isSixty time ≡ true → sixtyBehind59 time ≡ true
+unfolding timeAloneRefusal timeAloneAllowed
+alone-sixty time none sixty = taken-by time (sixtyBehind59 time) (not-false _ (when-none 5 _ none)) sixty

@@ -10,6 +10,7 @@ use Rattle.refusals.proofs.Laws.{both, was-done, when-none, does}
 use Rattle.calendar.specs.Ranges.{inside}
 use Rattle.calendar.specs.Calendar.{isLeap, monthLength, monthInRange, dateRefusal, daysInMonth, monthStart, dayOf, dayNumber, seek, monthHolding, dateAt, dayAfter, isLastDay}
 use Rattle.calendar.specs.TimeOfDay.{timeInRange, secondsOf, secondOfDay}
+use Rattle.calendar.specs.Literals.{date}
 use Rattle.calendar.specs.declared.date.Date.{Date}
 use Rattle.calendar.specs.declared.time.Time.{Time}
 use Rattle.calendar.proofs.Months.{month-28-to-31, held}
@@ -32,7 +33,7 @@ same-numbers a b c d there back =
     same _ _ (λ e. eq-eqb c d (there (eqb-true a b e))) (λ e. eq-eqb a b (back (eqb-true c d e)))
 
 -- a test that cannot pass
-never : (t : Bool) → (t ≡ true → ⊥) → t ≡ false
+pub never : (t : Bool) → (t ≡ true → ⊥) → t ≡ false
 never true h = absurd (h refl)
 never false h = refl
 
@@ -78,13 +79,20 @@ new-year-1980 : (date : Date) → date .day ≡ 1 → date .year ≡ 1980 → da
 unfolding dayOf monthStart
 new-year-1980 date d y m = rw (d, y, m)
 
--- 31.12.2079 is day 36524
+-- 31.12.2079, and its day number
+pub last-date : (on : Date) → isLastDay on ≡ true → on ≡ date 2079 12 31
+unfolding isLastDay
+last-date on e =
+    let day = both (eqb (on .year) 2079 && eqb (on .month) 12) (eqb (on .day) 31) e in
+    let month = both (eqb (on .year) 2079) (eqb (on .month) 12) (day .0) in
+    let y : on .year ≡ 2079 = eqb-true _ _ (month .0) in
+    let m : on .month ≡ 12 = eqb-true _ _ (month .1) in
+    let d : on .day ≡ 31 = eqb-true _ _ (day .1) in
+    λ i. record { year = y i; month = m i; day = d i }
+
 pub last-number : (date : Date) → isLastDay date ≡ true → dayOf date ≡ 36524
-unfolding isLastDay dayOf monthStart monthLength isLeap
-last-number date e =
-    let day = both (eqb (date .year) 2079 && eqb (date .month) 12) (eqb (date .day) 31) e in
-    let month = both (eqb (date .year) 2079) (eqb (date .month) 12) (day .0) in
-    rw (eqb-true (date .year) 2079 (month .0), eqb-true (date .month) 12 (month .1), eqb-true (date .day) 31 (day .1))
+unfolding dayOf monthStart monthLength isLeap
+last-number date e = ap dayOf (last-date date e)
 
 abbrev isFirst : Date → Bool
 isFirst date = eqb (date .day) 1
@@ -298,42 +306,38 @@ module _ (status : Status) (date : Date) (time : Time) where
       go are true = marked-ends date (good date fine) time hour _ are
       go are false = shifted-ends date (good date fine) time hour _ are (status .daylight)
 
-  -- where they say so, the day has the hour and the month has the day
-  fields-tell : (utc : Bool) → fieldsEnd utc ≡ true
-      → (time .hour ≤ 23) × ((1 ≤ date .day) × (date .day ≤ monthLength (date .year) (date .month)))
+  -- where they say so, the month has the day
+  fields-tell : (utc : Bool) → fieldsEnd utc ≡ true → (1 ≤ date .day) × (date .day ≤ monthLength (date .year) (date .month))
   unfolding endsInUtc endsInLocal
   fields-tell true e =
       let parts = both (eqb (time .hour) 23) (isMonthsLastDay date) e in
-      let hour = eqb-true (time .hour) 23 (parts .0) in
       let day = eqb-true (date .day) (monthLength (date .year) (date .month)) (parts .1) in
-      (omega arith, (omega (arith, month-28-to-31 (date .year) (date .month) .0), omega arith))
+      (omega (arith, month-28-to-31 (date .year) (date .month) .0), omega arith)
   fields-tell false e =
       let parts = both (eqb (time .hour) (cond (status .daylight) 1 0)) _ e in
-      let hour = eqb-true (time .hour) _ (parts .0) in
       let day = eqb-true (date .day) 1 (both _ _ (parts .1) .0) in
-      (omega (arith, first-hours (status .daylight)), (omega arith, omega (arith, month-28-to-31 (date .year) (date .month) .0)))
+      (omega arith, omega (arith, month-28-to-31 (date .year) (date .month) .0))
 
   fields-mean : sixtyByFields status date time ≡ true → Taken
   unfolding sixtyByFields
   fields-mean e =
-      let second = both _ _ e in
-      let rest = both _ _ (second .1) in
-      let month = both _ _ (rest .1) in
+      let parts = both _ _ e in
+      let behind = behind-means time (parts .0) in
+      let month = both _ _ (parts .1) in
       let told = fields-tell (status .utc) (month .1) in
-      let minute = eqb-true _ _ (rest .0) in
-      let fine = date-holds date (month .0) (told .1 .0) (told .1 .1) in
+      let fine = date-holds date (month .0) (told .0) (told .1) in
       record {
-        is-sixty = second .0;
-        minute = minute;
-        hour = told .0;
+        is-sixty = eq-eqb _ _ (behind .0);
+        minute = behind .1 .0;
+        hour = behind .1 .1;
         date-good = fine;
-        ends = sym (fields-agree fine minute (told .0)) ∙ month .1;
+        ends = sym (fields-agree fine (behind .1 .0) (behind .1 .1)) ∙ month .1;
       }
 
   fields-take : Taken → sixtyByFields status date time ≡ true
-  unfolding sixtyByFields
+  unfolding sixtyByFields sixtyBehind59
   fields-take t =
-      rw (t .is-sixty, eq-eqb (time .minute) 59 (t .minute), month-holds date (good date (t .date-good)))
+      rw (t .is-sixty, eq-eqb (time .minute) 59 (t .minute), good-at-59 time (t .minute) (t .hour), month-holds date (good date (t .date-good)))
       (fields-agree (t .date-good) (t .minute) (t .hour) ∙ t .ends)
 
   -- a local second 60 is never in hour 23

@@ -26,8 +26,8 @@ use Rattle.record.specs.Moment.{asMarked, inUtc}
 use Rattle.record.specs.Sixty.{isSixty, upTo59}
 use Rattle.record.specs.Rule.{datedRefusal, timeAloneRefusal, refusalOf, is60}
 use Rattle.record.specs.Next.{recordAfter, isLastOfCalendar, nextSecondOf}
-use Rattle.record.specs.Utc.{numberedAs, ownSeconds, countOf, utcSeconds}
-use Rattle.record.proofs.RuleLaws.{good, good-counted}
+use Rattle.record.specs.Utc.{numberedAs, noneFollows, ownSeconds, countOf, utcSeconds}
+use Rattle.record.proofs.RuleLaws.{good, good-up-to-59}
 use Rattle.record.proofs.NextLaws.{moment-is, followed, dated-follows, next-good, next-no-sixty}
 
 -- what was done one after the other
@@ -109,7 +109,7 @@ module _ (layout : DatedLayout) (status : Status) (weekday : ℕ) (date : Date) 
   plain-counted : isSixty time ≡ false → Counted
   plain-counted plain =
       let g = good layout status weekday date time none in
-      let range : timeInRange time ≡ true = rw (plain-time time plain) at (good-counted layout status weekday date time g) in
+      let range : timeInRange time ≡ true = rw (plain-time time plain) at (good-up-to-59 layout status weekday date time g) in
       record {
         counts = own-number (Dated layout status weekday date time) none plain ∙ moment-is (status .utc) date time (g .date-good) range;
         within = omega (arith, seconds-within time (good-range time range), day-within date (date-good date (g .date-good)));
@@ -125,7 +125,7 @@ module _ (layout : DatedLayout) (status : Status) (weekday : ℕ) (date : Date) 
         within = omega (arith, same, a .within);
       }
 
-  pub has-number : (isSixty time && isLastOfCalendar (Dated layout status weekday date time)) ≡ false → Counted
+  pub has-number : noneFollows (Dated layout status weekday date time) ≡ false → Counted
   unfolding nextSecondOf
   has-number more = go (isSixty time) refl more
     where
@@ -133,7 +133,7 @@ module _ (layout : DatedLayout) (status : Status) (weekday : ℕ) (date : Date) 
       go true sixty more = sixty-counted sixty _ (does _ (rw (none, more)))
       go false sixty more = plain-counted sixty
 
-  pub has-no-number : (isSixty time && isLastOfCalendar (Dated layout status weekday date time)) ≡ true → countOf (Dated layout status weekday date time) ≡ refused 12
+  pub has-no-number : noneFollows (Dated layout status weekday date time) ≡ true → countOf (Dated layout status weekday date time) ≡ refused 12
   unfolding nextSecondOf unless
   has-no-number last =
       let parts = both (isSixty time) _ last in
@@ -164,12 +164,12 @@ pub counted-good : (rec : Record) (count : Count) → countOf rec ≡ done count
 counted-good rec count e = let n = done-after (numberedAs rec) ownSeconds count e in numbered-good rec (n .0) (n .1)
 
 pub placed : (rec : Record) (count : Count) → countOf rec ≡ done count → Placed rec count
-placed (Dated layout status weekday date time) count e = go (isSixty time && isLastOfCalendar (Dated layout status weekday date time)) refl
+placed (Dated layout status weekday date time) count e = go (noneFollows (Dated layout status weekday date time)) refl
   where
     none : datedRefusal layout status weekday date time ≡ 0
     none = counted-good (Dated layout status weekday date time) count e
 
-    go : (last : Bool) → (isSixty time && isLastOfCalendar (Dated layout status weekday date time)) ≡ last → Placed (Dated layout status weekday date time) count
+    go : (last : Bool) → noneFollows (Dated layout status weekday date time) ≡ last → Placed (Dated layout status weekday date time) count
     go true last =
         let twelve = sym (has-no-number layout status weekday date time none last) ∙ e in
         let z : _≡_ {A = ℕ} 0 1 = cc in absurd (omega arith)
@@ -189,13 +189,12 @@ placed (Dated layout status weekday date time) count e = go (isSixty time && isL
         }
 placed (TimeOnly layout time) count e = absurd (time-has-no-count layout time count e)
 
-module _ (rec : Record) (count : Count) (e : countOf rec ≡ done count) where
-  pub placed-seconds : (p : Placed rec count) → 86400 * dayOf (p .date) + secondsOf (p .time) ≡ secondsIn count
-  placed-seconds p = sym (marked-in (p .status .utc) _) ∙ ap secondsIn (p .counted)
+pub placed-seconds : {rec : Record} {count : Count} (p : Placed rec count) → 86400 * dayOf (p .date) + secondsOf (p .time) ≡ secondsIn count
+placed-seconds p = sym (marked-in (p .status .utc) _) ∙ ap secondsIn (p .counted)
 
-  -- it lies in the calendar
-  pub count-within : secondsIn count < calendarSeconds
-  count-within = let p = placed rec count e in omega (arith, placed-seconds p, p .within)
+-- it lies in the calendar
+pub count-within : (rec : Record) (count : Count) → countOf rec ≡ done count → secondsIn count < calendarSeconds
+count-within rec count e = let p = placed rec count e in omega (arith, placed-seconds p, p .within)
 
 -- UTC seconds go by the count
 pub utc-refused : (rec : Record) (number : ℕ) → countOf rec ≡ refused number → refused number ≡ utcSeconds rec
@@ -228,7 +227,7 @@ plain-later (Dated layout status weekday date time) next count plain e f =
     ∙ ap done (marked-later (status .utc) (86400 * dayOf date + secondsOf time) 1 ∙ ap (secondsLater 1) here)
 plain-later (TimeOnly layout time) next count plain e f = absurd (time-has-no-count layout time count f)
 
-neither : (a b : Bool) → (a || b) ≡ false → (a ≡ false) × (b ≡ false)
+pub neither : (a b : Bool) → (a || b) ≡ false → (a ≡ false) × (b ≡ false)
 neither true b e = let z : _≡_ {A = ℕ} 0 1 = cc in absurd (omega arith)
 neither false b e = (refl, e)
 
@@ -257,55 +256,46 @@ refused-count rec n e = go (is60 rec)
 
 -- The number is the lowest that holds: 5 to 8 by the record's own rule, then 12.
 module _ (layout : DatedLayout) (status : Status) (weekday : ℕ) (date : Date) (time : Time) where
-  abbrev noFollower : Bool
-  noFollower = isSixty time && isLastOfCalendar (Dated layout status weekday date time)
-
   abbrev seconds : ℕ
   seconds = 86400 * dayOf date + secondsOf time
 
   abbrev shift : ℕ
   shift = seasonShift (status .daylight)
 
-  -- what the count comes to
-  counting : (n : ℕ) → datedRefusal layout status weekday date time ≡ n → (last : Bool) → noFollower ≡ last
-      → countOf (Dated layout status weekday date time) ≡ unless (n else 12 when last) (asMarked (status .utc) seconds)
-  unfolding unless
-  counting zero none true last = has-no-number layout status weekday date time none last
-  counting zero none false more = has-number layout status weekday date time none more .counts
-  counting (suc n) some last is = refused-count (Dated layout status weekday date time) n some
-
   pub count-lowest-first : countOf (Dated layout status weekday date time)
-      ≡ unless (datedRefusal layout status weekday date time else 12 when (isSixty time && isLastOfCalendar (Dated layout status weekday date time)))
+      ≡ unless (datedRefusal layout status weekday date time else 12 when noneFollows (Dated layout status weekday date time))
       (asMarked (status .utc) (86400 * dayOf date + secondsOf time))
-  count-lowest-first = counting _ refl noFollower refl
+  unfolding unless
+  count-lowest-first = go (datedRefusal layout status weekday date time) refl (noneFollows (Dated layout status weekday date time)) refl
+    where
+      go : (n : ℕ) → datedRefusal layout status weekday date time ≡ n → (last : Bool) → noneFollows (Dated layout status weekday date time) ≡ last
+          → countOf (Dated layout status weekday date time) ≡ unless (n else 12 when last) (asMarked (status .utc) seconds)
+      go zero none true last = has-no-number layout status weekday date time none last
+      go zero none false more = has-number layout status weekday date time none more .counts
+      go (suc n) some last is = refused-count (Dated layout status weekday date time) n some
 
   pub utc-lowest-first : after (utcSeconds (Dated layout status weekday date time)) (λ _. done tt)
       ≡ unless {A = Unit {0}}
       (datedRefusal layout status weekday date time
-      else 12 when (isSixty time && isLastOfCalendar (Dated layout status weekday date time)
+      else 12 when (noneFollows (Dated layout status weekday date time)
       || not (status .utc) && ltb (86400 * dayOf date + secondsOf time) (seasonShift (status .daylight)))) tt
   unfolding unless toUtc
-  utc-lowest-first = go (datedRefusal layout status weekday date time) refl noFollower refl
+  utc-lowest-first =
+      ap (λ o. after {B = Unit {0}} (after o (λ count. inUtc (status .daylight) count)) (λ _. done tt)) count-lowest-first
+      ∙ go (datedRefusal layout status weekday date time) refl (noneFollows (Dated layout status weekday date time)) refl
     where
       early : (before : Bool) → after (unless (12 when (before || false)) (record { 0 = seconds - shift })) (λ (utc : UtcSeconds). done tt) ≡ unless {A = Unit {0}} (12 when before) tt
       early true = refl
       early false = refl
-
-      told : {outcome : Outcome Count} → countOf (Dated layout status weekday date time) ≡ outcome
-          → after (after (countOf (Dated layout status weekday date time)) (λ count. inUtc (status .daylight) count)) (λ _. done tt)
-          ≡ after {B = Unit {0}} (after outcome (λ count. inUtc (status .daylight) count)) (λ _. done tt)
-      told e = ap (λ o. after {B = Unit {0}} (after o (λ count. inUtc (status .daylight) count)) (λ _. done tt)) e
 
       shifted : (utc : Bool) → seconds < calendarSeconds
           → after (inUtc (status .daylight) (asMarked utc seconds)) (λ _. done tt) ≡ unless {A = Unit {0}} (12 when (not utc && ltb seconds shift)) tt
       shifted true within = refl
       shifted false within = rw (lt-leb calendarSeconds (seconds - shift) (omega arith)) (early (ltb seconds shift))
 
-      go : (n : ℕ) → datedRefusal layout status weekday date time ≡ n → (last : Bool) → noFollower ≡ last
-          → after (after (countOf (Dated layout status weekday date time)) (λ count. inUtc (status .daylight) count)) (λ _. done tt)
+      go : (n : ℕ) → datedRefusal layout status weekday date time ≡ n → (last : Bool) → noneFollows (Dated layout status weekday date time) ≡ last
+          → after (after (unless (n else 12 when last) (asMarked (status .utc) seconds)) (λ count. inUtc (status .daylight) count)) (λ _. done tt)
           ≡ unless {A = Unit {0}} (n else 12 when (last || not (status .utc) && ltb seconds shift)) tt
-      go zero none true last = told (has-no-number layout status weekday date time none last)
-      go zero none false more =
-          let c = has-number layout status weekday date time none more in
-          told (c .counts) ∙ shifted (status .utc) (c .within)
-      go (suc n) some last is = told (refused-count (Dated layout status weekday date time) n some)
+      go zero none true last = refl
+      go zero none false more = shifted (status .utc) (has-number layout status weekday date time none more .within)
+      go (suc n) some last is = refl

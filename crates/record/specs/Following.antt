@@ -1,5 +1,6 @@
 -- Document 02, b, "Second 60": what is said of a second 60 and of what follows it, for every record.
-use mathlib.Core.Bool.{true, false, cond, _&&_}
+use mathlib.Core.Bool.{Bool, true, false, cond, _&&_}
+use mathlib.Core.Logic.{_↔_}
 use mathlib.Core.Path.{_≡_}
 use Prim.Native.Nat.{ℕ, _≤_}
 use lib.Dec.{eqb}
@@ -11,43 +12,68 @@ use Rattle.calendar.specs.declared.time.Time.{Time}
 use Rattle.record.specs.declared.DatedLayout.{DatedLayout}
 use Rattle.record.specs.declared.Status.{Status}
 use Rattle.record.specs.declared.Record.{Record}
-use Rattle.record.specs.declared.Record.the-variants.{Dated}
+use Rattle.record.specs.declared.Record.the-variants.{Dated, TimeOnly}
+use Rattle.record.specs.declared.season.LocalSeconds.{LocalSeconds}
 use Rattle.record.specs.declared.season.UtcSeconds.{UtcSeconds}
 use Rattle.record.specs.declared.season.Count.{Count}
-use Rattle.record.specs.Season.{secondsLater, secondsIn}
+use Rattle.record.specs.Season.{secondsIn, toUtc}
 use Rattle.record.specs.Sixty.{isSixty, at59, endsUtcMonth, takesSixty}
 use Rattle.record.specs.Rule.{statusAllowed, refusalOf, is60}
 use Rattle.record.specs.Next.{nextSecondOf}
 use Rattle.record.specs.Utc.{countOf, utcSeconds}
 
--- "the same record with second 59, its weekday aside": given the weekday that its date has, its UTC second is the moment that is asked about
+-- the same record with second 59, and the time of a record
+abbrev pub with59 : Record → Record
+with59 (Dated layout status weekday on at) = Dated layout status weekday on (at59 at)
+with59 (TimeOnly layout at) = TimeOnly layout (at59 at)
+
+abbrev pub timeOf : Record → Time
+timeOf (Dated layout status weekday on at) = at
+timeOf (TimeOnly layout at) = at
+
+-- "accept 60 when the minute is 59 and the same record with second 59 is the last second of a UTC month": no rule refuses it exactly then
+abbrev pub ASixtyIsAcceptedExactlyThen : Type 0
+ASixtyIsAcceptedExactlyThen =
+    (layout : DatedLayout) (status : Status) (weekday : ℕ) (on : Date) (at : Time) → isSixty at ≡ true
+    → refusalOf (Dated layout status weekday on at) ≡ 0
+    ↔ ((at .minute ≡ 59) × (endsUtcMonth (utcSeconds (with59 (Dated layout status weekday on at))) ≡ true))
+
+-- "its weekday aside": given the weekday that its date has, its UTC second is the moment that is asked about
 abbrev pub TheSameRecordWith59Decides : Type 0
 TheSameRecordWith59Decides =
     (layout : DatedLayout) (status : Status) (on : Date) (at : Time) → statusAllowed layout status ≡ true → isSixty at ≡ true
     → takesSixty status on at ≡ (eqb (at .minute) 59 && endsUtcMonth (utcSeconds (Dated layout status (weekdayOf (dayOf on)) on (at59 at))))
 
+-- "stepping and second advance go from 60 to 00": to what follows the 59 before it, date and weekday carried, at a full hour
+abbrev pub ASixtyGoesTo00 : Type 0
+ASixtyGoesTo00 =
+    (rec : Record) → refusalOf rec ≡ 0 → is60 rec ≡ true
+    → (nextSecondOf rec ≡ nextSecondOf (with59 rec))
+    × ((next : Record) → nextSecondOf rec ≡ done next → (timeOf next .minute ≡ 0) × (timeOf next .second ≡ 0))
+
 -- "neither makes a 60 by itself": stepping and second advance go by the next second
 abbrev pub NothingMakesASixty : Type 0
 NothingMakesASixty = (rec next : Record) → nextSecondOf rec ≡ done next → is60 next ≡ false
 
--- the next second is one later, but that of a 60, whose number its follower shares
+-- how many seconds on the next second is: one, but from a 60 none, whose number its follower shares
 abbrev pub secondsOn : Record → ℕ
 secondsOn rec = cond (is60 rec) 0 1
-
-abbrev pub TheNextSecondIsOneLater : Type 0
-TheNextSecondIsOneLater =
-    (rec next : Record) (count : Count) → nextSecondOf rec ≡ done next → countOf rec ≡ done count
-    → countOf next ≡ done (secondsLater (secondsOn rec) count)
 
 abbrev pub ASixtySharesItsFollowersNumber : Type 0
 ASixtySharesItsFollowersNumber =
     (rec next : Record) → is60 rec ≡ true → nextSecondOf rec ≡ done next → (countOf rec ≡ countOf next) × (utcSeconds rec ≡ utcSeconds next)
 
--- "12 if there is none": the one 60 that is read and written and has no follower is marked UTC, 31.12.2079 23:59:60, a Sunday
+-- "12 if there is none": the only good 60 that none follows is marked UTC, 31.12.2079 23:59:60, a Sunday; and that one is good in each layout and status that can say it
 abbrev pub OneSixtyHasNoFollower : Type 0
 OneSixtyHasNoFollower =
     (rec : Record) → refusalOf rec ≡ 0 → is60 rec ≡ true → nextSecondOf rec ≡ refused 12
     → (layout : DatedLayout) × (status : Status) × (rec ≡ Dated layout status 7 (date 2079 12 31) (time 23 59 60)) × (status .utc ≡ true)
+
+abbrev pub TheLastSixtyIsGoodAndNoneFollows : Type 0
+TheLastSixtyIsGoodAndNoneFollows =
+    (layout : DatedLayout) (status : Status) → status .utc ≡ true → statusAllowed layout status ≡ true
+    → (refusalOf (Dated layout status 7 (date 2079 12 31) (time 23 59 60)) ≡ 0)
+    × (nextSecondOf (Dated layout status 7 (date 2079 12 31) (time 23 59 60)) ≡ refused 12)
 
 abbrev pub WithoutAFollowerItHasNoNumber : Type 0
 WithoutAFollowerItHasNoNumber =
@@ -58,3 +84,4 @@ abbrev pub NoCountIsBehindTheCalendar : Type 0
 NoCountIsBehindTheCalendar =
     ((rec : Record) (count : Count) → countOf rec ≡ done count → secondsIn count ≤ 3155759999)
     × ((rec : Record) (utc : UtcSeconds) → utcSeconds rec ≡ done utc → utc .0 ≤ 3155759999)
+    × ((local : LocalSeconds) (daylight : Bool) (utc : UtcSeconds) → toUtc local daylight ≡ done utc → utc .0 ≤ 3155759999)

@@ -6,7 +6,7 @@ use Rattle.calendar.specs.Calendar.{monthInRange}
 use Rattle.calendar.specs.declared.date.Date.{Date}
 use Rattle.calendar.specs.declared.time.Time.{Time}
 use Rattle.record.specs.declared.Status.{Status}
-use Rattle.record.specs.Sixty.{isSixty, isMonthsLastDay, takesSixty}
+use Rattle.record.specs.Sixty.{sixtyBehind59, isMonthsLastDay, takesSixty}
 
 -- marked UTC: 23:59:60 on a month's last day
 unfoldable pub endsInUtc : Date → Time → Bool
@@ -19,8 +19,8 @@ endsInLocal daylight date time =
 
 unfoldable pub sixtyByFields : Status → Date → Time → Bool
 sixtyByFields status date time =
-    isSixty time && (eqb (time .minute) 59 && (monthInRange (date .year) (date .month)
-    && cond (status .utc) (endsInUtc date time) (endsInLocal (status .daylight) date time)))
+    sixtyBehind59 time && (monthInRange (date .year) (date .month)
+    && cond (status .utc) (endsInUtc date time) (endsInLocal (status .daylight) date time))
 
 abbrev pub TheFieldsSayTheSame : Type 0
 TheFieldsSayTheSame = (status : Status) (date : Date) (time : Time) → sixtyByFields status date time ≡ takesSixty status date time

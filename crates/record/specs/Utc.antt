@@ -1,5 +1,5 @@
 -- Document 01, "Calendar, UTC and the station clock", and document 02, b: the count of a record's seconds, and its UTC seconds.
-use mathlib.Core.Bool.{cond}
+use mathlib.Core.Bool.{Bool, cond, _&&_}
 use Rattle.refusals.specs.Refusals.{_else_, Outcome, refused, unless, after}
 use Rattle.record.specs.declared.Record.{Record}
 use Rattle.record.specs.declared.Record.the-variants.{Dated, TimeOnly}
@@ -7,11 +7,15 @@ use Rattle.record.specs.declared.season.UtcSeconds.{UtcSeconds}
 use Rattle.record.specs.declared.season.Count.{Count}
 use Rattle.record.specs.Moment.{momentOf, inUtc}
 use Rattle.record.specs.Rule.{is60, refusalOf}
-use Rattle.record.specs.Next.{nextSecondOf}
+use Rattle.record.specs.Next.{isLastOfCalendar, nextSecondOf}
 
 -- the record whose number a record has: "a second 60 has the number of the second that follows it, 12 if there is none", any other its own
 unfoldable pub numberedAs : Record → Outcome Record
 numberedAs rec = cond (is60 rec) (nextSecondOf rec) (unless (refusalOf rec) rec)
+
+-- a second 60 with none behind it, which has no number
+abbrev pub noneFollows : Record → Bool
+noneFollows rec = is60 rec && isLastOfCalendar rec
 
 -- the seconds of a record's date and time; 14 where the layout carries no date
 abbrev pub ownSeconds : Record → Outcome Count

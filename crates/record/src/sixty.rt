@@ -65,10 +65,7 @@ fn ends_in_local(daylight: bool, date: Date, time: Time) -> bool
 fn by_fields(status: Status, date: Date, time: Time) -> bool
     ensures { λ r. ⌜ r ≡ sixtyByFields status date time ⌝ }
 {
-    if time.second != 60 {
-        return false;
-    }
-    if time.minute != 59 {
+    if !behind_59(time) {
         return false;
     }
     match calendar::date::days_in_month(date.year, date.month) {

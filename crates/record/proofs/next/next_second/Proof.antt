@@ -4,7 +4,7 @@ use mathlib.Core.Bool.{true, false}
 use Rattle.refusals.proofs.Laws.{refuses-first}
 use Rattle.calendar.specs.Answers.{dateAnswer, nextSecondAnswer}
 use Rattle.record.specs.Next.{nextSecondOf}
-use Rattle.record.proofs.RuleLaws.{good, good-counted, alone-counted}
+use Rattle.record.proofs.RuleLaws.{good, good-up-to-59, alone-up-to-59}
 use Rattle.record.proofs.NextLaws.{same-day, next-day, calendar-ends, time-goes-on, goes-on}
 use borrow.Author.Needs.{needs}
 use Rattle.record.proofs.next.next_second.Statement.{statement}
@@ -74,7 +74,7 @@ returns-3 c =
 returns-4 : tie.Need-returns-4
 returns-4 c =
     let none = rw (c .before .before .before .before .before .rec .given .1) at (sym (c .before .before .before .before .before .before .before .before .refusal .ensures) ∙ c .before .before .before .before .before .before .before .if1 .left) in
-    absurd (goes-on _ _ (alone-counted _ none) (sym (c .before .before .before .next-time .ensures) ∙ ap nextSecondAnswer (c .before .number .given .1)))
+    absurd (goes-on _ _ (alone-up-to-59 _ none) (sym (c .before .before .before .next-time .ensures) ∙ ap nextSecondAnswer (c .before .number .given .1)))
 
 returns-5 : tie.Need-returns-5
 returns-5 c =
@@ -100,7 +100,7 @@ returns-8 : tie.Need-returns-8
 returns-8 c =
     let none = rw (c .before .before .before .before .before .rec2 .given .1) at (sym (c .before .before .before .before .before .before .before .before .refusal .ensures) ∙ c .before .before .before .before .before .before .before .if1 .left) in
     absurd
-    (goes-on _ _ (good-counted _ _ _ _ _ (good _ _ _ _ _ none)) (sym (c .before .before .before .next-time2 .ensures) ∙ ap nextSecondAnswer (c .before .number3 .given .1)))
+    (goes-on _ _ (good-up-to-59 _ _ _ _ _ (good _ _ _ _ _ none)) (sym (c .before .before .before .next-time2 .ensures) ∙ ap nextSecondAnswer (c .before .number3 .given .1)))
 
 pub next-second-spec : {M : Type 1} → statement M
 next-second-spec =

@@ -1,7 +1,6 @@
 -- `record::rule::dated_refusal` meets its contract.
 use mathlib.Core.Path.{sym, ap, _∙_}
 use borrow.Author.Tests.{not-true, not-false, eq-eqb, ne-eqb}
-use Rattle.refusals.specs.Refusals.{_else_}
 use Rattle.refusals.proofs.Laws.{was-done, was-refused, refused-some, else-some}
 use Rattle.calendar.specs.Answers.{dayAnswer}
 use Rattle.calendar.specs.Calendar.{dayNumber, dayOf, dateRefusal, weekdayOf}

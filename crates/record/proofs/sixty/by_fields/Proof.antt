@@ -1,6 +1,6 @@
 -- `record::sixty::by_fields` meets its contract.
 use mathlib.Core.Path.{sym, ap, _∙_}
-use borrow.Author.Tests.{eq-eqb, ne-eqb}
+use borrow.Author.Tests.{not-true, not-false}
 use borrow.Author.Needs.{needs}
 use Rattle.calendar.specs.Answers.{daysAnswer}
 use Rattle.record.specs.SixtyByFields.{sixtyByFields}
@@ -8,13 +8,12 @@ use Rattle.record.proofs.SixtyLaws.{month-told, month-refused}
 use Rattle.record.proofs.sixty.by_fields.Statement.{statement}
 use Rattle.record.proofs.sixty.by_fields.Tie as tie
 
+behind-59-requires : tie.Need-behind-59-requires
+behind-59-requires c κs = search needs
+
 returns : tie.Need-returns
 unfolding sixtyByFields
-returns c = rw (ne-eqb _ _ (c .if1 .taken))
-
-returns-2 : tie.Need-returns-2
-unfolding sixtyByFields
-returns-2 c = rw (eq-eqb _ _ (c .before .before .if1 .left), ne-eqb _ _ (c .if2 .taken))
+returns c = rw (sym (c .before .behind-59 .ensures) ∙ not-true _ (c .if1 .taken))
 
 days-in-month-requires : tie.Need-days-in-month-requires
 days-in-month-requires c κs = search needs
@@ -28,38 +27,38 @@ enum-known-days c = search needs
 ends-in-utc-requires : tie.Need-ends-in-utc-requires
 ends-in-utc-requires c κs = month-told _ _ _ (sym (c .before .before .before .before .days-in-month .ensures) ∙ ap daysAnswer (c .before .before .days .given .1)) .1
 
-returns-3 : tie.Need-returns-3
+returns-2 : tie.Need-returns-2
 unfolding sixtyByFields
-returns-3 c =
+returns-2 c =
     let month = month-told _ _ _ (sym (c .before .before .before .before .before .days-in-month .ensures) ∙ ap daysAnswer (c .before .before .before .days .given .1)) in
-    rw (eq-eqb _ _ (c .before .before .before .before .before .before .before .before .if1 .left), eq-eqb _ _ (c .before .before .before .before .before .before .if2 .left), month .0, c .before .if3 .taken) (c .ends-in-utc .ensures)
+    rw (sym (c .before .before .before .before .before .before .before .behind-59 .ensures) ∙ not-false _ (c .before .before .before .before .before .before .if1 .left), month .0, c .before .if2 .taken) (c .ends-in-utc .ensures)
 
 ends-in-local-requires : tie.Need-ends-in-local-requires
 ends-in-local-requires c κs = search needs
 
+returns-3 : tie.Need-returns-3
+unfolding sixtyByFields
+returns-3 c =
+    let month = month-refused _ _ _ (sym (c .before .before .days-in-month .ensures) ∙ ap daysAnswer (c .enum-told .given .1)) in
+    rw (sym (c .before .before .before .before .behind-59 .ensures) ∙ not-false _ (c .before .before .before .if1 .left), month)
+
 returns-4 : tie.Need-returns-4
 unfolding sixtyByFields
 returns-4 c =
-    let month = month-refused _ _ _ (sym (c .before .before .days-in-month .ensures) ∙ ap daysAnswer (c .enum-told .given .1)) in
-    rw (eq-eqb _ _ (c .before .before .before .before .before .if1 .left), eq-eqb _ _ (c .before .before .before .if2 .left), month)
-
-returns-5 : tie.Need-returns-5
-unfolding sixtyByFields
-returns-5 c =
     let month = month-told _ _ _ (sym (c .before .before .before .before .before .days-in-month .ensures) ∙ ap daysAnswer (c .before .before .before .days .given .1)) in
-    rw (eq-eqb _ _ (c .before .before .before .before .before .before .before .before .if1 .left), eq-eqb _ _ (c .before .before .before .before .before .before .if2 .left), month .0, c .before .if3 .left) (c .ends-in-local .ensures)
+    rw (sym (c .before .before .before .before .before .before .before .behind-59 .ensures) ∙ not-false _ (c .before .before .before .before .before .before .if1 .left), month .0, c .before .if2 .left) (c .ends-in-local .ensures)
 
 pub by-fields-spec : {M : Type 1} → statement M
 by-fields-spec =
     tie.close
     (tie.spec
+    behind-59-requires
     returns
-    returns-2
     days-in-month-requires
     enum-told
     enum-known-days
     ends-in-utc-requires
-    returns-3
+    returns-2
     ends-in-local-requires
-    returns-4
-    returns-5)
+    returns-3
+    returns-4)
