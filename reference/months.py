@@ -14,9 +14,9 @@ import records
 import telegrams
 from records import Dated
 from refusals import outcome
+from second_60 import MARKS
 from telegrams import Setting
 
-MARKS = [(False, False), (True, False), (False, True), (True, True)]   # the daylight bit, the UTC bit
 TIMES = [(hour, minute, second) for before, after in ((23, 0), (0, 1), (1, 2))
          for hour, minute, second in ((before, 59, 59), (before, 59, 60), (before, 59, 61), (after, 0, 0))]
 

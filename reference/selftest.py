@@ -333,24 +333,26 @@ ENDS = [datetime.timedelta(hours=hour, minutes=59, seconds=59) for hour in range
 
 
 def second_60_by_library():
-    """Every hour's end of the calendar in each season and in UTC: 60 is out of range but where the second before it ends a UTC month.
-    A good one is followed by what the standard library has behind the 59, and shares its UTC second."""
+    """Every day of the calendar in each season and in UTC, around the ends of months every hour's end, else those of the hours that
+    matter and of one that goes round: 60 is out of range but where the second before it ends a UTC month. A good one is followed by
+    what the standard library has behind the 59, and shares its UTC second."""
     for (daylight, utc), wanted_ones in (((False, False), 1199), ((True, False), 1199), ((False, True), 1200)):
         shift, good_ones = SHIFTS[daylight, utc], 0
         for number in range(days.DAYS):
             there = FIRST_MOMENT + number * DAY
             date = there.isoweekday(), there.day, there.month, there.year
-            wanted = [hour for hour, end in enumerate(ENDS) if ends_a_month(there + end - shift)]
-            same("second 60", (there, hours_of_60(daylight, utc, *date)), (there, wanted))
+            hours = range(24) if (there - DAY).month != (there + DAY).month else sorted({0, 1, number % 24, 23})
+            wanted = [hour for hour in hours if ends_a_month(there + ENDS[hour] - shift)]
+            same("second 60", (there, hours_of_60(hours, daylight, utc, *date)), (there, wanted))
             for hour in wanted:
                 followed_by_library((daylight, utc), there + datetime.timedelta(hours=hour))
             good_ones += len(wanted)
         same("second 60", good_ones, wanted_ones)
 
 
-def hours_of_60(daylight, utc, weekday, day, month, year):
-    """The hours of a day whose minute 59 has a second 60 that is in range."""
-    return [hour for hour in range(24)
+def hours_of_60(hours, daylight, utc, weekday, day, month, year):
+    """Of some hours of a day those whose minute 59 has a second 60 that is in range."""
+    return [hour for hour in hours
             if not records.out_of_range(Dated("6021", "radio", daylight, False, utc, weekday, hour, 59, 60, day, month, year))]
 
 
