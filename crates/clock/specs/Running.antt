@@ -57,7 +57,7 @@ stepped (suc n) clock = stepOf (stepped n clock) .clock
 abbrev pub EachIsMade : ℕ → Clock → Type 0
 EachIsMade n clock = (k : ℕ) → k < n → stepOf (stepped k clock) .answer ≡ answer.Stepped
 
--- how many seconds so many steps add to a record: the first what it goes on by, as no step makes a 60 each other one
+-- how many seconds so many steps add: the first what its record goes on by, each other one, as no step makes a 60
 abbrev pub secondsOfSteps : ℕ → Record → ℕ
 secondsOfSteps zero rec = 0
 secondsOfSteps (suc n) rec = secondsOn rec + n

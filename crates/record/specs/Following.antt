@@ -59,22 +59,25 @@ NothingMakesASixty = (rec next : Record) → nextSecondOf rec ≡ done next → 
 abbrev pub secondsOn : Record → ℕ
 secondsOn rec = cond (is60 rec) 0 1
 
+-- "a second 60 has the number of the second that follows it"
 abbrev pub ASixtySharesItsFollowersNumber : Type 0
 ASixtySharesItsFollowersNumber =
     (rec next : Record) → is60 rec ≡ true → nextSecondOf rec ≡ done next → (countOf rec ≡ countOf next) × (utcSeconds rec ≡ utcSeconds next)
 
--- "12 if there is none": the only good 60 that none follows is marked UTC, 31.12.2079 23:59:60, a Sunday; and that one is good in each layout and status that can say it
+-- the only good 60 that none follows is marked UTC, 31.12.2079 23:59:60, a Sunday
 abbrev pub OneSixtyHasNoFollower : Type 0
 OneSixtyHasNoFollower =
     (rec : Record) → refusalOf rec ≡ 0 → is60 rec ≡ true → nextSecondOf rec ≡ refused 12
     → (layout : DatedLayout) × (status : Status) × (rec ≡ Dated layout status 7 (date 2079 12 31) (time 23 59 60)) × (status .utc ≡ true)
 
+-- and that one is good in each layout and status that can say it
 abbrev pub TheLastSixtyIsGoodAndNoneFollows : Type 0
 TheLastSixtyIsGoodAndNoneFollows =
     (layout : DatedLayout) (status : Status) → status .utc ≡ true → statusAllowed layout status ≡ true
     → (refusalOf (Dated layout status 7 (date 2079 12 31) (time 23 59 60)) ≡ 0)
     × (nextSecondOf (Dated layout status 7 (date 2079 12 31) (time 23 59 60)) ≡ refused 12)
 
+-- "12 if there is none"
 abbrev pub WithoutAFollowerItHasNoNumber : Type 0
 WithoutAFollowerItHasNoNumber =
     (rec : Record) → is60 rec ≡ true → nextSecondOf rec ≡ refused 12 → (countOf rec ≡ refused 12) × (utcSeconds rec ≡ refused 12)

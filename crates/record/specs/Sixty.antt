@@ -11,6 +11,7 @@ use Rattle.record.specs.declared.Status.{Status}
 use Rattle.record.specs.declared.season.UtcSeconds.{UtcSeconds}
 use Rattle.record.specs.Moment.{utcMoment}
 
+-- "second 60"
 abbrev pub isSixty : Time → Bool
 isSixty time = eqb (time .second) 60
 
@@ -22,6 +23,7 @@ at59 time = record { hour = time .hour; minute = time .minute; second = 59 }
 unfoldable pub sixtyBehind59 : Time → Bool
 sixtyBehind59 time = isSixty time && (eqb (time .minute) 59 && timeInRange (at59 time))
 
+-- a month's last day
 abbrev pub isMonthsLastDay : Date → Bool
 isMonthsLastDay date = eqb (date .day) (monthLength (date .year) (date .month))
 

@@ -17,10 +17,12 @@ unfoldable pub endsInLocal : Bool → Date → Time → Bool
 endsInLocal daylight date time =
     eqb (time .hour) (cond daylight 1 0) && (eqb (date .day) 1 && not (eqb (date .year) 1980 && eqb (date .month) 1))
 
+-- behind 59:59, in a month that the calendar has, at its end in UTC
 unfoldable pub sixtyByFields : Status → Date → Time → Bool
 sixtyByFields status date time =
     sixtyBehind59 time && (monthInRange (date .year) (date .month)
     && cond (status .utc) (endsInUtc date time) (endsInLocal (status .daylight) date time))
 
+-- for every status, date and time, good or not
 abbrev pub TheFieldsSayTheSame : Type 0
 TheFieldsSayTheSame = (status : Status) (date : Date) (time : Time) → sixtyByFields status date time ≡ takesSixty status date time

@@ -22,6 +22,7 @@ abbrev pub ownSeconds : Record → Outcome Count
 ownSeconds (Dated layout status weekday date time) = momentOf (status .utc) date time
 ownSeconds (TimeOnly layout time) = refused 14
 
+-- local or UTC seconds as the record is marked; 5 to 8, then 12 and 14
 abbrev pub countOf : Record → Outcome Count
 countOf rec = after (numberedAs rec) ownSeconds
 
