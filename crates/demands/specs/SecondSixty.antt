@@ -25,15 +25,15 @@ use Rattle.demands.specs.Demand2.{advanced, NeitherMakesASixty}
 use Rattle.demands.specs.Programs.{writes}
 use Rattle.demands.specs.Boundary.{BoundaryRow, telegram, BoundaryRowHolds}
 
--- "On a leap second night the reader refused our second 60": the telegrams of such nights, and telegrams beside them
+-- "On a leap second night the reader refused our second 60": the telegrams of such a night, and telegrams beside them
 abbrev pub sixtyTelegrams : List BoundaryRow
 sixtyTelegrams =
-    -- the leap second of December 1987 in standard time, in each layout
-    telegram (ascii "85005960010188" ++ lfCr) (done (Dated L6021 standardTime 5 (date 1988 1 1) (time 0 59 60)))
-    ∷ telegram (ascii "8500596001011988" ++ lfCr) (done (Dated L2000 standardTime 5 (date 1988 1 1) (time 0 59 60)))
-    ∷ telegram (ascii "0 005960 010188 5" ++ crLf) (done (Dated L5500 standardTime 5 (date 1988 1 1) (time 0 59 60)))
-    ∷ telegram (ascii "00 59 60 01 01 88 05 " ++ crLf) (done (Dated L5050 standardTime 5 (date 1988 1 1) (time 0 59 60)))
-    -- that of June 1981 in daylight time, and marked UTC
+    -- the leap second of June 1981 in standard time, in each layout
+    telegram (ascii "83005960010781" ++ lfCr) (done (Dated L6021 standardTime 3 (date 1981 7 1) (time 0 59 60)))
+    ∷ telegram (ascii "8300596001071981" ++ lfCr) (done (Dated L2000 standardTime 3 (date 1981 7 1) (time 0 59 60)))
+    ∷ telegram (ascii "0 005960 010781 3" ++ crLf) (done (Dated L5500 standardTime 3 (date 1981 7 1) (time 0 59 60)))
+    ∷ telegram (ascii "00 59 60 01 07 81 03 " ++ crLf) (done (Dated L5050 standardTime 3 (date 1981 7 1) (time 0 59 60)))
+    -- in daylight time, and marked UTC
     ∷ telegram (ascii "A3015960010781" ++ lfCr) (done (Dated L6021 daylightTime 3 (date 1981 7 1) (time 1 59 60)))
     ∷ telegram (ascii "8A235960300681" ++ lfCr) (done (Dated L6021 markedUtc 2 (date 1981 6 30) (time 23 59 60)))
     -- the time alone
