@@ -41,7 +41,7 @@ RECORD = {5, 6, 7, 8}
 
 # Each entry point by its letter, and the refusals that documents 01 and 02 give to it; each has to occur.
 OWN_REFUSALS = {
-    "D": {6, 7}, "d": {12}, "n": {6, 7, 12}, "M": {6}, "T": {6}, "t": {6},
+    "D": {6, 7}, "d": {12}, "n": {6, 7, 12}, "M": {6}, "T": {6}, "t": {6}, "h": set(),
     "J": RECORD, "B": set(), "N": RECORD | {12}, "C": RECORD | {12, 14}, "Z": {12}, "U": RECORD | {12, 14},
     "K": RECORD | {12, 14}, "k": RECORD | {12, 14},
     "P": set(), "Q": {16},
@@ -193,6 +193,11 @@ def second_case(time):
 def next_time_case(time):
     """A time to advance by a second: whether midnight is passed, and the time."""
     return answered("t", bytes(time), outcome(days.next_second, time), lambda later: [later[1], *later[0]])
+
+
+def time_range_case(time):
+    """A time that the day may have."""
+    return told("h", bytes(time), [not days.time_out_of_range(time)])
 
 
 # Records and the clock.
@@ -559,6 +564,7 @@ def time_cases():
             for second in (0, 58, 59, 60, 255):
                 yield second_case(Time(hour, minute, second))
                 yield next_time_case(Time(hour, minute, second))
+                yield time_range_case(Time(hour, minute, second))
 
 
 # --- the parameter byte ---

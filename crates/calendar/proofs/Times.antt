@@ -49,18 +49,6 @@ pub seconds-within : (time : Time) → Good time → secondsOf time < 86400
 unfolding secondsOf
 seconds-within time g = omega (arith, g)
 
-pub out-of-range : (time : Time) → (timeRefusal time ≡ 0 → ⊥) → timeInRange time ≡ false
-unfolding timeRefusal
-out-of-range time some = go (timeInRange time) some
-  where
-    go : (t : Bool) → ((6 when not t) ≡ 0 → ⊥) → t ≡ false
-    go true h = absurd (h refl)
-    go false h = refl
-
-pub range : (time : Time) → timeRefusal time ≡ 0 → timeInRange time ≡ true
-unfolding timeRefusal
-range time none = not-false _ (when-none 5 _ none)
-
 -- The last second of a day, told by the tests that the next second goes by.
 module _ (time : Time) where
   pub not-last-hour : time .hour < 23 → isLastSecond time ≡ false

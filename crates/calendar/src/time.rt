@@ -25,8 +25,8 @@ pub enum NextSecondAnswer {
     Refused(u8),
 }
 
-// Whether the day has this time.
-fn time_in_range(time: Time) -> bool
+// Whether the day has this time. Its seconds end at 59.
+pub fn time_in_range(time: Time) -> bool
     ensures { λ r. ⌜ r ≡ timeInRange time ⌝ }
 {
     if !inside(0, time.hour as u16, 23) {

@@ -24,7 +24,7 @@ use Rattle.record.specs.Rule.{datedRefusal, is60}
 use Rattle.record.specs.Next.{recordAfter, isLastOfCalendar, nextSecondOf}
 use Rattle.record.specs.Utc.{ownSeconds, countOf}
 use Rattle.record.specs.Following.{secondsOn}
-use Rattle.record.proofs.SixtyLaws.{never, last-number}
+use Rattle.record.proofs.SixtyLaws.{never, last-of-day, last-number}
 use Rattle.record.proofs.RuleLaws.{good, good-up-to-59}
 use Rattle.record.proofs.NextLaws.{next-no-sixty}
 use Rattle.record.proofs.UtcLaws.{done-after, followers-number, plain-time, placed, placed-seconds, count-within, none-later, later-still, seconds-in-later}
@@ -39,14 +39,8 @@ use Rattle.clock.proofs.StepLaws.{second-is-next, second-refused, goes-
 
 -- The end of the calendar, by its second and by its day number.
 last-second-is : (time : Time) → isLastSecond time ≡ true → secondsOf time ≡ 86399
-unfolding isLastSecond secondsOf
-last-second-is time e =
-    let hour = both (eqb (time .hour) 23) (eqb (time .minute) 59 && eqb (time .second) 59) e in
-    let minute = both (eqb (time .minute) 59) (eqb (time .second) 59) (hour .1) in
-    let h : time .hour ≡ 23 = eqb-true _ _ (hour .0) in
-    let m : time .minute ≡ 59 = eqb-true _ _ (minute .0) in
-    let s : time .second ≡ 59 = eqb-true _ _ (minute .1) in
-    omega arith
+unfolding secondsOf
+last-second-is time e = ap secondsOf (last-of-day time e)
 
 is-last-second : (time : Time) → GoodTime time → secondsOf time ≡ 86399 → isLastSecond time ≡ true
 unfolding secondsOf

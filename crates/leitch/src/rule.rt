@@ -2,8 +2,7 @@
 use super::Reply;
 use calendar::date::Date;
 use calendar::date::DayAnswer;
-use calendar::time::SecondAnswer;
-use calendar::time::Time;
+use calendar::time::time_in_range;
 use calendar::year::YearDayAnswer;
 use refusals::DAY_OF_YEAR_DISAGREES;
 use refusals::NONE;
@@ -15,7 +14,6 @@ ghost use mathlib.Core.Bool.{not};
 ghost use Rattle.refusals.specs.Refusals.{_when_, _else_};
 ghost use Rattle.calendar.specs.Ranges.{inside};
 ghost use Rattle.calendar.specs.Calendar.{dateRefusal};
-ghost use Rattle.calendar.specs.TimeOfDay.{timeInRange};
 ghost use Rattle.leitch.specs.Rule.{statusListed, weekdayAgrees, fieldsRefusal, dayRefusal};
 
 fn inside(low: u8, x: u8, high: u8) -> bool
@@ -35,16 +33,6 @@ fn status_listed(status: u8) -> bool
         return true;
     }
     inside(b'A', status, b'F')
-}
-
-// Whether the day has this time. Its seconds end at 59.
-fn time_in_range(time: Time) -> bool
-    ensures { λ r. ⌜ r ≡ timeInRange time ⌝ }
-{
-    match calendar::time::second_of_day(time) {
-        SecondAnswer::Second(_) => true,
-        SecondAnswer::Refused(_) => false,
-    }
 }
 
 // 6 or 7 of a date, or 8 where the weekday is not the date's, or no refusal.

@@ -30,7 +30,7 @@ use Rattle.record.specs.Rule.{statusAllowed, weekdayAllowed, refusalOf, 
 use Rattle.record.specs.Next.{weekdayAfter, recordAfter, isLastOfCalendar, nextSecondOf}
 use Rattle.record.specs.Utc.{countOf, utcSeconds}
 use Rattle.record.specs.Following.{with59, timeOf, ASixtyIsAcceptedExactlyThen, ASixtyGoesTo00, TheSameRecordWith59Decides, secondsOn, ASixtySharesItsFollowersNumber, OneSixtyHasNoFollower, WithoutAFollowerItHasNoNumber, NoCountIsBehindTheCalendar}
-use Rattle.record.proofs.SixtyLaws.{same, behind-means, good-at-59, last-date, last-number, takes, sixty-means, marked-or-local}
+use Rattle.record.proofs.SixtyLaws.{same, behind-means, good-at-59, last-of-day, last-date, last-number, takes, sixty-means, marked-or-local}
 use Rattle.record.proofs.RuleLaws.{good, not-refused, good-up-to-59, range-allowed, range-alone, taken-allowed, sixty-taken, alone-sixty}
 use Rattle.record.proofs.NextLaws.{followed, next-good}
 use Rattle.record.proofs.UtcLaws.{neither, done-after, plain-time, own-number, counted-good, followers-number, next-number, plain-later, none-later, count-within, utc-refused, had-count}
@@ -172,17 +172,12 @@ ends-calendar rec none e =
     go true e = refl
     go false e = absurd (omega arith)
 
--- the fields of 23:59:60
+-- 23:59:60
 last-time : (at : Time) → isSixty at ≡ true → isLastSecond (upTo59 at) ≡ true → at ≡ time 23 59 60
-unfolding isLastSecond upTo59
+unfolding upTo59
 last-time at sixty e =
-    let last : isLastSecond (at59 at) ≡ true = rw sixty at e in
-    let hour = both (eqb (at .hour) 23) _ last in
-    let minute = both (eqb (at .minute) 59) _ (hour .1) in
-    let h : at .hour ≡ 23 = eqb-true _ _ (hour .0) in
-    let m : at .minute ≡ 59 = eqb-true _ _ (minute .0) in
-    let s : at .second ≡ 60 = eqb-true _ _ sixty in
-    λ i. record { hour = h i; minute = m i; second = s i }
+    let last : at59 at ≡ time 23 59 59 = last-of-day (at59 at) (rw sixty at e) in
+    λ i. record { hour = last i .hour; minute = last i .minute; second = eqb-true (at .second) 60 sixty i }
 
 pub one-without-follower : OneSixtyHasNoFollower
 one-without-follower (Dated layout status weekday on at) none sixty e =

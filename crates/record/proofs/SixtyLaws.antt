@@ -9,8 +9,8 @@ use Rattle.refusals.specs.Refusals.{_when_, done, refused, unless}
 use Rattle.refusals.proofs.Laws.{both, was-done, when-none, does}
 use Rattle.calendar.specs.Ranges.{inside}
 use Rattle.calendar.specs.Calendar.{isLeap, monthLength, monthInRange, dateRefusal, daysInMonth, monthStart, dayOf, dayNumber, seek, monthHolding, dateAt, dayAfter, isLastDay}
-use Rattle.calendar.specs.TimeOfDay.{timeInRange, secondsOf, secondOfDay}
-use Rattle.calendar.specs.Literals.{date}
+use Rattle.calendar.specs.TimeOfDay.{timeInRange, secondsOf, secondOfDay, isLastSecond}
+use Rattle.calendar.specs.Literals.{date, time}
 use Rattle.calendar.specs.declared.date.Date.{Date}
 use Rattle.calendar.specs.declared.time.Time.{Time}
 use Rattle.calendar.proofs.Months.{month-28-to-31, held}
@@ -78,6 +78,17 @@ first-day date g e = sym (date-at-day date g) ∙ ap dateAt e
 new-year-1980 : (date : Date) → date .day ≡ 1 → date .year ≡ 1980 → date .month ≡ 1 → dayOf date ≡ 0
 unfolding dayOf monthStart
 new-year-1980 date d y m = rw (d, y, m)
+
+-- 23:59:59
+pub last-of-day : (at : Time) → isLastSecond at ≡ true → at ≡ time 23 59 59
+unfolding isLastSecond
+last-of-day at e =
+    let hour = both (eqb (at .hour) 23) (eqb (at .minute) 59 && eqb (at .second) 59) e in
+    let minute = both (eqb (at .minute) 59) (eqb (at .second) 59) (hour .1) in
+    let h : at .hour ≡ 23 = eqb-true _ _ (hour .0) in
+    let m : at .minute ≡ 59 = eqb-true _ _ (minute .0) in
+    let s : at .second ≡ 59 = eqb-true _ _ (minute .1) in
+    λ i. record { hour = h i; minute = m i; second = s i }
 
 -- 31.12.2079, and its day number
 pub last-date : (on : Date) → isLastDay on ≡ true → on ≡ date 2079 12 31

@@ -8,14 +8,13 @@ use super::sixty::behind_59;
 use super::sixty::is_taken;
 use calendar::date::Date;
 use calendar::date::DayAnswer;
-use calendar::time::SecondAnswer;
 use calendar::time::Time;
+use calendar::time::time_in_range;
 use refusals::NONE;
 use refusals::OUT_OF_RANGE;
 use refusals::STATUS_OR_WEEKDAY;
 use refusals::WEEKDAY_DISAGREES;
 ghost use mathlib.Core.Path.{_≡_};
-ghost use Rattle.calendar.specs.TimeOfDay.{timeInRange};
 ghost use Rattle.record.specs.Rule.{crystalOrRadio, plainUtc, tableCanSay, tableOf6021, statusAllowed, weekdayAllowed, timeAllowed, datedRefusal, timeAloneRefusal, refusalOf};
 
 fn is_crystal_or_radio(reception: Reception) -> bool
@@ -83,20 +82,11 @@ fn weekday_allowed(weekday: u8) -> bool
     weekday <= 7
 }
 
-fn is_in_range(time: Time) -> bool
-    ensures { λ r. ⌜ r ≡ timeInRange time ⌝ }
-{
-    match calendar::time::second_of_day(time) {
-        SecondAnswer::Second(_) => true,
-        SecondAnswer::Refused(_) => false,
-    }
-}
-
 // A second 60 is asked about last, as hardly any record has one.
 fn time_allowed(status: Status, date: Date, time: Time) -> bool
     ensures { λ r. ⌜ r ≡ timeAllowed status date time ⌝ }
 {
-    if is_in_range(time) {
+    if time_in_range(time) {
         return true;
     }
     is_taken(status, date, time)
@@ -128,7 +118,7 @@ fn dated_refusal(layout: DatedLayout, status: Status, weekday: u8, date: Date, t
 fn time_alone_refusal(time: Time) -> u8
     ensures { λ r. ⌜ r ≡ timeAloneRefusal time ⌝ }
 {
-    if is_in_range(time) {
+    if time_in_range(time) {
         return NONE;
     }
     if behind_59(time) {

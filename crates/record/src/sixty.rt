@@ -8,7 +8,7 @@ ghost use mathlib.Core.Path.{_≡_};
 ghost use mathlib.Core.Bool.{cond};
 ghost use Rattle.calendar.specs.Calendar.{monthLength};
 ghost use Rattle.record.specs.Sixty.{sixtyBehind59, takesSixty, upTo59};
-ghost use Rattle.record.specs.SixtyByFields.{endsInUtc, endsInLocal, sixtyByFields};
+ghost use Rattle.record.specs.SixtyByFields.{endsInUtc, endsInLocal};
 
 // In time-only layouts 60 is accepted when the minute is 59, in any hour of the day: they carry no date that could end a month.
 pub(crate) fn behind_59(time: Time) -> bool
@@ -61,9 +61,10 @@ fn ends_in_local(daylight: bool, date: Date, time: Time) -> bool
     date.month != 1
 }
 
-// A month that the calendar does not have ends nowhere.
-fn by_fields(status: Status, date: Date, time: Time) -> bool
-    ensures { λ r. ⌜ r ≡ sixtyByFields status date time ⌝ }
+// Whether a record with a date may carry this second 60: the minute is 59, and with second 59 it is the last second of a UTC month.
+// False for every other second, and in a month that the calendar does not have. The weekday is not asked for.
+pub(crate) fn is_taken(status: Status, date: Date, time: Time) -> bool
+    ensures { λ r. ⌜ r ≡ takesSixty status date time ⌝ }
 {
     if !behind_59(time) {
         return false;
@@ -77,14 +78,6 @@ fn by_fields(status: Status, date: Date, time: Time) -> bool
             ends_in_local(status.daylight, date, time)
         }
     }
-}
-
-// Whether a record with a date may carry this second 60: the minute is 59, and with second 59 it is the last second of a UTC month.
-// False for every other second. The weekday is not asked for.
-pub(crate) fn is_taken(status: Status, date: Date, time: Time) -> bool
-    ensures { λ r. ⌜ r ≡ takesSixty status date time ⌝ }
-{
-    by_fields(status, date, time)
 }
 
 // The calendar's day has no second 60: it is asked for the 59 before it. Every other time stays as it is.

@@ -58,6 +58,10 @@ pub(crate) fn day_of_year(bytes: &[u8]) {
     }
 }
 
+pub(crate) fn time_in_range(bytes: &[u8]) {
+    outputs::print_flag(calendar::time::time_in_range(inputs::time(bytes)));
+}
+
 pub(crate) fn second_of_day(bytes: &[u8]) {
     match calendar::time::second_of_day(inputs::time(bytes)) {
         SecondAnswer::Second(second) => {

@@ -8,6 +8,7 @@
 //   y        the day of the year of a date
 //   T        the second of the day of a time
 //   t        the next second of a time
+//   h        whether the day has a time
 //   J        the refusal of a record
 //   B        whether a layout has the status table of the 6021
 //   N        the next second of a record
@@ -60,6 +61,7 @@ fn run(letter: u8, bytes: &[u8]) {
         b'y' => dates::day_of_year(bytes),
         b'T' => dates::second_of_day(bytes),
         b't' => dates::next_second(bytes),
+        b'h' => dates::time_in_range(bytes),
         b'J' => records::refusal(bytes),
         b'B' => records::table_of_6021(bytes),
         b'N' => records::next_second(bytes),
