@@ -40,6 +40,14 @@ pub const DAY_OF_YEAR_DISAGREES: u8 = 17;
 
 pub const NO_REQUEST: u8 = 18;
 
+pub const NOT_WHOLE_BLOCKS: u8 = 19;
+
+pub const BLOCK_BAD: u8 = 20;
+
+pub const NO_FREE_SLOT: u8 = 21;
+
+pub const NO_SUCH_TELEGRAM: u8 = 27;
+
 // The lower of two refusals, where 0 is none.
 pub fn lower(here: u8, before: u8) -> u8
     ensures { λ r. ⌜ r ≡ lower here before ⌝ }

@@ -1,0 +1,57 @@
+-- The answers of the log: for each of their cases, the paper's number or the value handed out.
+use mathlib.Core.List.{List, []}
+use mathlib.Core.Path.{_≡_}
+use Prim.Native.Nat.{ℕ, _+_, _*_, _≤_}
+use lib.ListN.{length, take, drop}
+use denote.Ref.{RefT, now}
+use Rattle.refusals.specs.Refusals.{Outcome, done, refused}
+use Rattle.log.specs.declared.Place.{Place}
+use Rattle.log.specs.declared.add.AddAnswer.{AddAnswer}
+use Rattle.log.specs.declared.add.AddAnswer.the-variants.{Added, Refused}
+use Rattle.log.specs.declared.read_back.Located.{Located}
+use Rattle.log.specs.declared.read_back.Located.the-variants as located
+use Rattle.log.specs.Block.{slotSize, blockSize}
+
+-- where the telegram stands
+abbrev pub addAnswer : AddAnswer → Outcome Place
+addAnswer (Added place) = done place
+addAnswer (Refused number) = refused number
+
+-- the bytes of a part of the region
+abbrev pub locatedIn : List ℕ → Located → Outcome (List ℕ)
+locatedIn region (located.At start size) = done (take size (drop start region))
+locatedIn region (located.Refused number) = refused number
+
+-- the byte of the region where the telegram of a slot begins: behind the slot's length byte
+abbrev pub telegramPlace : ℕ → ℕ → ℕ
+telegramPlace block slot = blockSize * block + slotSize * slot + 1
+
+-- a part that begins there and ends within the region
+abbrev pub StandsIn : List ℕ → ℕ → ℕ → Located → Type 0
+StandsIn region block slot (located.At start size) = (start ≡ telegramPlace block slot) × (start + size ≤ length region)
+StandsIn region block slot (located.Refused number) = Unit {0}
+
+-- the number beside a telegram is 0
+abbrev pub numberOf : Outcome (List ℕ) → ℕ
+numberOf (done bytes) = 0
+numberOf (refused number) = number
+
+-- the bytes beside a refusal are none
+abbrev pub bytesOf : Outcome (List ℕ) → List ℕ
+bytesOf (done bytes) = bytes
+bytesOf (refused number) = []
+
+-- where they begin: a telegram at its place, and the empty part at the region's first byte
+abbrev pub beginOf : Outcome (List ℕ) → ℕ → ℕ
+beginOf (done bytes) place = place
+beginOf (refused number) place = 0
+
+-- a part that begins at that byte of the region: the same memory, and no copy
+abbrev pub BeginsAt : RefT (List ℕ) → ℕ → RefT (List ℕ) → Type 0
+BeginsAt region place part = part .ptr ≡ (region .ptr .0, region .ptr .1 + place)
+
+-- what reading back hands out
+pub record HandedOut (answer : Outcome (List ℕ)) (place : ℕ) (region part : RefT (List ℕ)) (number : ℕ) : Type 0 where
+  pub number-is : number ≡ numberOf answer
+  pub bytes : now part ≡ bytesOf answer
+  pub own : BeginsAt region (beginOf answer place) part
