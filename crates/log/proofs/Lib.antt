@@ -1,3 +1,4 @@
+pub mod AsPrintedHolds
 pub mod SameLaws
 pub mod BlockLaws
 pub mod TestLaws

@@ -7,5 +7,6 @@ pub mod Add
 pub mod ReadBack
 pub mod Answers
 pub mod Tests
+pub mod AsPrinted
 pub mod OfABlock
 pub mod OfTheLog
