@@ -11,6 +11,7 @@ sys.dont_write_bytecode = True  # leaves no files behind
 import captures
 import cases
 import listing
+import log_scripts
 import measured
 import months
 import samples
@@ -28,6 +29,11 @@ def made():
     captures.check(lines)
     yield "crates/test_lines/stdin", b"".join(captures.handed_over(pieces) for pieces in lines)
     yield "crates/test_lines/stdout", b"".join(listing.listing(b"".join(pieces)) for pieces in lines)
+    scripts = list(log_scripts.all_scripts())
+    log_scripts.check(scripts)
+    steps = log_scripts.steps_of(scripts)
+    yield "crates/test_logs/stdin", b"".join(given for given, _ in steps)
+    yield "crates/test_logs/stdout", b"".join(expected for _, expected in steps)
     every_month = list(months.lines())
     months.check(every_month)
     yield "crates/test_months/stdout", b"".join(every_month)

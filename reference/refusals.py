@@ -20,6 +20,10 @@ STATE = 15             # the reader's state is not well formed
 SETTING = 16           # the board does not offer the setting
 DAY_OF_YEAR = 17       # the day of the year is not the date's
 REQUEST = 18           # the bytes are no request
+WHOLE_BLOCKS = 19      # log: the region is not whole blocks
+BAD_BLOCK = 20         # log: the block is bad
+NO_FREE_SLOT = 21      # log: no free slot behind the last one used
+NO_TELEGRAM = 27       # log: no telegram at that block and slot
 
 
 class Refused(Exception):
