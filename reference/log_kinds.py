@@ -7,8 +7,8 @@ from telegrams import layout_of
 OWN = range(1, 9)   # the refusals of a telegram
 
 # Numbers of a block or a slot. 2^55 blocks are 2^64 bytes, and so are 2^59 slots.
-NUMBERS = (0, 1, 14, 15, 16, 255, 256, 2 ** 16, 2 ** 31, 2 ** 32 - 1, 2 ** 32, 2 ** 55 - 1, 2 ** 55, 2 ** 55 + 1, 2 ** 59, 2 ** 59 + 1,
-           2 ** 63, 2 ** 64 - 1)
+NUMBERS = (0, 1, 14, 15, 16, 255, 256, 2 ** 16, 2 ** 31, 2 ** 32 - 1, 2 ** 32, 2 ** 55 - 1, 2 ** 55, 2 ** 55 + 1, 2 ** 59,
+           2 ** 59 + 1, 2 ** 63, 2 ** 64 - 1)
 ODD_LENGTHS = (1, 31, 32, 480, 511, 513, 1000, 1023, 1025, 1535, 1537, 4095)
 
 # Places where every bit is changed.
@@ -114,6 +114,11 @@ def filled(block):
     return "full" if count == log.SLOTS else "some" if count else "empty"
 
 
+def side(number, block):
+    """On which side of a block another stands."""
+    return "before" if number < block else "behind"
+
+
 def state_of(region):
     """What a region has for an add."""
     if len(region) % log.BLOCK:
@@ -132,18 +137,25 @@ def of_add(region, telegram, place, refusal):
     good = [number for number, block in enumerate(blocks) if log.is_good(block)]
     used = [number for number in good if blocks[number][log.COUNT_AT]]
     if refusal == 21 and state == "full":
-        yield ("filled", len(blocks)) if used == list(range(len(blocks))) else ("nothing behind", "bad" if good[-1] + 1 < len(blocks) else "end")
+        yield from no_room(blocks, good)
     if refusal is not None:
         return
     yield "layout", layout_of(telegram, True)
-    yield from where_of_add(place, good, used)
-    if any(filled(blocks[number]) != "full" for number in good if used and number < used[-1]):
-        yield "gap before", filled(blocks[next(number for number in good if filled(blocks[number]) != "full")])
-    yield from (("bad beside an add", "before" if number < place.block else "behind") for number in range(len(blocks)) if number not in good)
+    yield from where_of_add(place, used)
+    yield from (("gap before", filled(blocks[number])) for number in good if used and number < used[-1])
+    yield from (("bad beside an add", side(number, place.block)) for number in range(len(blocks)) if number not in good)
 
 
-def where_of_add(place, good, used):
-    """The place of an accepted telegram by what stands before it."""
+def no_room(blocks, good):
+    """Why a region with good blocks has no room: all of it is full, or bad blocks or nothing stand behind the last good one."""
+    if all(number in good and filled(block) == "full" for number, block in enumerate(blocks)):
+        yield "filled", len(blocks)
+    else:
+        yield "nothing behind", "bad" if good[-1] + 1 < len(blocks) else "end"
+
+
+def where_of_add(place, used):
+    """The place of an accepted telegram by what is used before it."""
     if not used:
         yield "nothing used", "first block" if place.block == 0 else "bad blocks before"
     elif place.block == used[-1]:
@@ -168,8 +180,7 @@ def of_read(region, block, slot, refusal):
     state = "good" if log.is_good(blocks[block]) else "bad"
     yield "read", is_odd, state, slot_kind(blocks[block], slot), refusal or 0
     if refusal is None:
-        yield from (("bad beside a read", "before" if number < block else "behind") for number, other in enumerate(blocks)
-                    if not log.is_good(other))
+        yield from (("bad beside a read", side(number, block)) for number, other in enumerate(blocks) if not log.is_good(other))
 
 
 def of_verify(region, verified):
@@ -201,7 +212,8 @@ ADDS = of_states(OWN, ("room", 0), ("odd", 19), ("full", 21), ("no blocks", 21),
 
 ADDED = ({("filled", blocks) for blocks in range(1, 5)} | {("nothing behind", "bad"), ("nothing behind", "end")}
          | {("layout", layout) for layout in layouts.LAYOUTS}
-         | {("nothing used", "first block"), ("nothing used", "bad blocks before"), ("next block", "right behind"), ("next block", "over bad ones")}
+         | {("nothing used", "first block"), ("nothing used", "bad blocks before")}
+         | {("next block", "right behind"), ("next block", "over bad ones")}
          | {("next slot", slot) for slot in range(1, log.SLOTS)} | {("gap before", "empty"), ("gap before", "some")}
          | {("bad beside an add", "before"), ("bad beside an add", "behind")})
 
@@ -214,8 +226,8 @@ READS = ({("read", False, *asked, ANSWERS.get(asked, 20)) for asked in ASKED} | 
 READ = ({("number", what, number) for what in ("block", "slot") for number in NUMBERS} | {("blocks and", more) for more in (-1, 0, 1)}
         | {("bad beside a read", "before"), ("bad beside a read", "behind")})
 
-VERIFIED = ({("verify", 0), ("verify", 19), ("verify", 20)} | {("good", blocks) for blocks in range(9)} | {("odd", length) for length in ODD_LENGTHS}
-            | {("odd with", "a bad block"), ("odd with", "good blocks")} | {("bad blocks", number) for number in (1, 2, 3)}
+VERIFIED = ({("verify", 0), ("verify", 19), ("verify", 20)} | {("good", blocks) for blocks in range(9)}
+            | {("odd", length) for length in ODD_LENGTHS} | {("odd with", "a bad block"), ("odd with", "good blocks")} | {("bad blocks", number) for number in (1, 2, 3)}
             | {("bad", rule.__name__, where) for rule in log.RULES for where in ("first", "middle", "last")})
 
 WHERE = ("first", "between", "last")
@@ -228,13 +240,14 @@ ALONE = (["low byte of the check", "high byte of the check", "both bytes of the 
 
 FAULTS = {("fault", fault, True) for fault in ALONE} | {("fault", fault, False) for fault in ("one less", ("gap", "not counted"))}
 
-CHANGES = ({(what, state, at) for what in ("changed", "changed back") for state in ("empty", "some", "full") for at in range(log.BLOCK)}
-           | {("bit", at, bit) for at in EDGES for bit in range(8)})
+CHANGES = ({(what, state, at, refusal) for what, refusal in (("changed", 20), ("changed back", 0))
+            for state in ("empty", "some", "full") for at in range(log.BLOCK)}
+           | {("bit", at, bit, 20) for at in EDGES for bit in range(8)})
 
 POKES = {("poke", "inside"), ("poke", "beyond"), ("poke", "same")}
 
 WANTED = ADDS | ADDED | READS | READ | VERIFIED | FAULTS | CHANGES | POKES
-ALL_OF = {"add": ADDS, "read": READS}   # there is nothing else that may come of these
+ALL_OF = {"add": ADDS, "read": READS, "changed": CHANGES, "changed back": CHANGES}   # nothing else may come of these
 
 
 def check(seen):
@@ -242,4 +255,4 @@ def check(seen):
     missing = WANTED - seen
     others = {kind for kind in seen if kind not in ALL_OF.get(kind[0], {kind})}
     if missing or others:
-        raise AssertionError(f"scripts: {len(missing)} kinds never met: {sorted(map(repr, missing))[:20]}; not to be had: {others}")
+        raise AssertionError(f"scripts: {len(missing)} kinds are missing: {sorted(map(repr, missing))[:20]}; not to be had: {others}")

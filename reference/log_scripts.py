@@ -8,6 +8,7 @@ import functools
 import itertools
 import random
 import sys
+from typing import NamedTuple
 
 sys.dont_write_bytecode = True  # leaves no files behind
 
@@ -40,12 +41,21 @@ def told(what, value, refusal):
     return b"%s refused %d\n" % (what, refusal) if refusal is not None else b"%s %s\n" % (what, value)
 
 
+class Change(NamedTuple):
+    """A single byte changed in a good region, or changed back: the region as it was, how full its block was, where in it, which bits."""
+    what: str
+    before: bytes
+    state: str
+    at: int
+    bits: int
+
+
 class Script:
     """Operations on a region, each with what it prints; and the kinds of them that were met."""
 
     def __init__(self, length):
         self.steps, self.kinds = [], set()
-        self.changed = None   # how full the good block was that the last poke has made bad, and where in it; only if all were good
+        self.change = None   # what the last poke was, if it was that
         self.new(length)
 
     def step(self, given, line, before):
@@ -64,15 +74,14 @@ class Script:
         self.note_change(before, place)
 
     def note_change(self, before, place):
-        """Whether a poke has changed one byte of a region that was good, or changed it back."""
-        number, at = divmod(place, BLOCK)
-        was, back = log.verify(before), self.changed
-        self.changed = None
-        if was == log.Verified(None, None) and log.verify(self.region).refusal == 20:
+        """Whether a poke has changed a byte of a good region, or changed it back."""
+        last, self.change = self.change, None
+        if log.verify(before) == log.Verified(None, None) and self.region != before:
+            number, at = divmod(place, BLOCK)
             block = log.block_at(before, number)
-            self.changed = ("changed", log_kinds.filled(block), at), bytes(before), block[at] ^ self.region[place]
-        elif back and self.region == back[1]:
-            self.changed = ("changed back", *back[0][1:]), None, 0
+            self.change = Change("changed", before, log_kinds.filled(block), at, block[at] ^ self.region[place])
+        elif last and self.region == last.before:
+            self.change = last._replace(what="changed back", bits=0)
 
     def add(self, telegram):
         before = bytes(self.region)
@@ -80,7 +89,7 @@ class Script:
         self.step(b"A" + bytes([len(telegram)]) + telegram, told(b"add", place and b"%d %d" % place, refusal), before)
         self.kinds.update(log_kinds.of_add(before, telegram, place, refusal))
         if refusal is None:
-            self.changed = None
+            self.change = None
         return place
 
     def read(self, block, slot):
@@ -94,10 +103,10 @@ class Script:
         line = {None: b"verify good\n", 19: b"verify refused 19\n"}.get(verified.refusal) or b"verify refused 20 at %d\n" % verified.block
         self.step(b"V", line, self.region)
         self.kinds.update(log_kinds.of_verify(self.region, verified))
-        if self.changed:
-            kind, _, bits = self.changed
-            self.kinds.add(kind)
-            self.kinds.update(("bit", kind[2], bit) for bit in range(8) if bits == 1 << bit)
+        if self.change:
+            what, _, state, at, bits = self.change
+            self.kinds.add((what, state, at, verified.refusal or 0))
+            self.kinds.update(("bit", at, bit, verified.refusal or 0) for bit in range(8) if bits == 1 << bit)
 
     # What several operations do.
 
@@ -271,9 +280,12 @@ def wrong_slots(dice, block):
         yield with_slot(block, slot, slot_of(good_telegram(dice)))
 
 
+DAMAGES = (wrong_checks, wrong_counts, wrong_telegrams, wrong_lengths, wrong_zeros, wrong_slots)
+
+
 def damaged_blocks(dice, block):
     """Every kind of damage of a good block with some telegrams."""
-    for kind in (wrong_checks, wrong_counts, wrong_telegrams, wrong_lengths, wrong_zeros, wrong_slots):
+    for kind in DAMAGES:
         yield from kind(dice, block)
 
 
@@ -307,9 +319,9 @@ def fill(script, dice, counts):
         script.poke(BLOCK * number + ZEROS_AT, 0)
 
 
-def filled(dice, counts, more=0):
-    """A script whose blocks hold so many telegrams, in a region that is so much longer."""
-    script = Script(BLOCK * len(counts) + more)
+def filled(dice, counts):
+    """A script whose blocks hold so many telegrams."""
+    script = Script(BLOCK * len(counts))
     fill(script, dice, counts)
     return script
 
@@ -338,20 +350,30 @@ def refused_adds(script, dice):
         script.add(telegram)
 
 
-def own_refusals(dice):
-    """Telegrams that are refused, into regions of every kind, and a good one behind them."""
-    for counts, more in (((0,), 0), ((15, 3), 0), ((15,), 0), ((15, 15), 0), ((), 0), ((), 1), ((), 511), ((2,), 1), ((15,), 100)):
-        script = Script(BLOCK * len(counts))
-        fill(script, dice, counts)
-        if more:
-            script.new(BLOCK * len(counts) + more)
-        refused_adds(script, dice)
-        script.add(good_telegram(dice))
-        yield script
+def filled_odd(dice, counts, more):
+    """The same in a region that is so much longer, where adds are refused."""
+    script = Script(BLOCK * len(counts) + more)
+    for number, count in enumerate(counts):
+        script.put(number, block_of(of_all_layouts(dice, count)))
+    return script
+
+
+def of_every_kind(dice):
+    """Regions with room, full ones, odd ones, one of no blocks, and ones whose blocks are all bad."""
+    for counts in ((), (0,), (15, 3), (15,), (15, 15)):
+        yield filled(dice, counts)
+    for counts, more in (((), 1), ((), 511), ((2,), 1), ((15,), 100)):
+        yield filled_odd(dice, counts, more)
     for counts in ((0,), (15, 3)):
         script = filled(dice, counts)
         for number in range(len(counts)):
             script.poke(BLOCK * number + COUNT_AT, 99)
+        yield script
+
+
+def refused_telegrams(dice):
+    """Telegrams that are refused, into regions of every kind, and a good one behind them."""
+    for script in of_every_kind(dice):
         refused_adds(script, dice)
         script.add(good_telegram(dice))
         script.verify()
@@ -373,8 +395,8 @@ def gaps(dice):
 # Each block is good with so many telegrams, or bad (None).
 BESIDE_BAD_ONES = (
     (None,), (None, None), (None, None, None, None), (None, 0), (0, None), (None, 3), (3, None), (15, None), (15, None, None), (15, None, 0),
-    (15, None, None, 0), (15, None, 2), (None, 15), (None, 15, 0), (15, 15, None, 0), (14, None), (14, None, 0), (0, None, 0), (None, 0, None, 0),
-    (4, None, 15, None), (4, None, 15, None, 0), (None, 0, None), (2, None, 0, None, 15))
+    (15, None, None, 0), (15, None, 2), (None, 15), (None, 15, 0), (15, 15, None, 0), (14, None), (14, None, 0), (0, None, 0),
+    (None, 0, None, 0), (4, None, 15, None), (4, None, 15, None, 0), (None, 0, None), (2, None, 0, None, 15))
 
 
 def beside_bad_ones(dice):
@@ -494,8 +516,8 @@ def odd_lengths(dice):
         script.add(good_telegram(dice))
         for block, slot in itertools.product((0, 1, length // BLOCK, 2 ** 64 - 1), (0, 14, 15, 2 ** 64 - 1)):
             script.read(block, slot)
-        for number in range(length // BLOCK):
-            script.put(number, block_of(of_all_layouts(dice, dice.choice([1, 2]))) if number < 2 else bytes(BLOCK))
+        for number in range(min(2, length // BLOCK)):
+            script.put(number, block_of(of_all_layouts(dice, number + 1)))
         script.poke(length - 1, 7)
         script.poke(length, 7)
         script.verify()
@@ -540,9 +562,28 @@ def pokes(dice):
 
 def by_hand(dice):
     """All scripts that are no matter of dice, but for the telegrams in them."""
-    for kind in (to_full, own_refusals, gaps, beside_bad_ones, damages, beyond_the_modulus, rubbish_blocks, single_bytes, odd_lengths, numbers,
-                 pokes):
+    for kind in (to_full, refused_telegrams, gaps, beside_bad_ones, damages, beyond_the_modulus, rubbish_blocks, single_bytes, odd_lengths,
+                 numbers, pokes):
         yield from kind(dice)
+
+
+# --- whole logs ---
+
+def some_block(dice):
+    """A block of any kind."""
+    good = block_of([good_telegram(dice) for _ in range(dice.randrange(1, SLOTS + 1))])
+    kind = dice.random()
+    if kind < 0.6:
+        return good
+    if kind < 0.7:
+        return bytes(BLOCK)
+    return dice.choice(list(dice.choice([*DAMAGES, rubbish])(dice, good)))
+
+
+def some_log(dice, blocks):
+    """A log of so many blocks of any kind, now and then with more bytes behind them."""
+    kept = b"".join(some_block(dice) for _ in range(blocks))
+    return kept + dice.randbytes(dice.choice([0, 0, 1, 100, BLOCK - 1]))
 
 
 # --- scripts by dice ---

@@ -1,4 +1,4 @@
-"""Makes the input and the expected output of the repository's programs, and the sample captures with their listings.
+"""Makes the input and the expected output of the repository's programs, and the samples with their listings.
 
 Run with --write it writes them; with --check it fails where a committed file is not what it makes.
 """
@@ -11,9 +11,11 @@ sys.dont_write_bytecode = True  # leaves no files behind
 import captures
 import cases
 import listing
+import log_listing
 import log_scripts
 import measured
 import months
+import sample_logs
 import samples
 
 ROOT = pathlib.Path(__file__).resolve().parent.parent
@@ -44,6 +46,10 @@ def made():
     for name, captured in samples.SAMPLES.items():
         yield f"samples/{name}.capture", captured
         yield f"samples/{name}.listing", listing.listing(captured)
+    for name, kept in sample_logs.LOGS.items():
+        yield f"samples/{name}.log", kept
+        yield f"samples/{name}.verify", log_listing.verify_listing(kept)
+        yield f"samples/{name}.rows", log_listing.log_listing(kept)
 
 
 def main(mode):
