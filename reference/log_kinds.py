@@ -17,6 +17,15 @@ EDGES = (0, 1, 31, 32, 479, 480, 481, 509, 510, 511)
 
 # --- a block ---
 
+STATES = ("empty", "some", "full")
+
+
+def filled(block):
+    """How full a block says it is."""
+    count = block[log.COUNT_AT]
+    return "full" if count == log.SLOTS else "some" if count else "empty"
+
+
 def broken(block):
     """The names of the rules that a block breaks."""
     return [rule.__name__ for rule in log.RULES if not rule(block)]
@@ -33,9 +42,10 @@ def slot_holds(slot):
 
 
 def faults_of_check(block):
+    """How a check differs from the right one."""
     stored, right = log.stored_check(block), log.check_of(block)
     if stored == right + log.MODULUS:
-        yield "the sum and 65,521"
+        yield "the sum and 65,521", filled(block)
     elif stored % 256 == right % 256:
         yield "high byte of the check"
     elif stored // 256 == right // 256:
@@ -108,12 +118,6 @@ def faults_of(block):
 
 # --- the region ---
 
-def filled(block):
-    """How full a good block is."""
-    count = block[log.COUNT_AT]
-    return "full" if count == log.SLOTS else "some" if count else "empty"
-
-
 def side(number, block):
     """On which side of a block another stands."""
     return "before" if number < block else "behind"
@@ -173,7 +177,7 @@ def of_read(region, block, slot, refusal):
     """A read back: the region, the block, the slot, and what came of it."""
     blocks = log.blocks_of(region)
     is_odd = len(region) % log.BLOCK != 0
-    yield from (("number", "block", block), ("number", "slot", slot), ("blocks and", block - len(blocks)))
+    yield from (("numbers", block, slot), ("blocks and", block - len(blocks)))
     if block >= len(blocks):
         yield "read", is_odd, "no such block", refusal
         return
@@ -223,16 +227,18 @@ ANSWERS = {("good", "used"): 0, ("good", "unused"): 27, ("good", "no such slot")
 READS = ({("read", False, *asked, ANSWERS.get(asked, 20)) for asked in ASKED} | {("read", True, *asked, 19) for asked in ASKED}
          | {("read", False, "no such block", 27), ("read", True, "no such block", 19)})
 
-READ = ({("number", what, number) for what in ("block", "slot") for number in NUMBERS} | {("blocks and", more) for more in (-1, 0, 1)}
+READ = ({("numbers", block, slot) for block in NUMBERS for slot in NUMBERS} | {("blocks and", more) for more in (-1, 0, 1)}
         | {("bad beside a read", "before"), ("bad beside a read", "behind")})
 
 VERIFIED = ({("verify", 0), ("verify", 19), ("verify", 20)} | {("good", blocks) for blocks in range(9)}
-            | {("odd", length) for length in ODD_LENGTHS} | {("odd with", "a bad block"), ("odd with", "good blocks")} | {("bad blocks", number) for number in (1, 2, 3)}
+            | {("odd", length) for length in ODD_LENGTHS} | {("odd with", "a bad block"), ("odd with", "good blocks")}
+            | {("bad blocks", number) for number in (1, 2, 3)}
             | {("bad", rule.__name__, where) for rule in log.RULES for where in ("first", "middle", "last")})
 
 WHERE = ("first", "between", "last")
 
-ALONE = (["low byte of the check", "high byte of the check", "both bytes of the check", "the sum and 65,521"]
+ALONE = (["low byte of the check", "high byte of the check", "both bytes of the check"]
+         + [("the sum and 65,521", state) for state in STATES]
          + [("number", number) for number in (-1, 1, 16, 17, 255)] + [("telegram", number) for number in OWN]
          + [("length byte", number) for number in (0, 31, 32, 255)] + ["one more", ("gap", "counted")]
          + [("behind a telegram", where) for where in WHERE] + [("unused", slot, byte) for slot in WHERE for byte in WHERE]
@@ -241,7 +247,7 @@ ALONE = (["low byte of the check", "high byte of the check", "both bytes of the 
 FAULTS = {("fault", fault, True) for fault in ALONE} | {("fault", fault, False) for fault in ("one less", ("gap", "not counted"))}
 
 CHANGES = ({(what, state, at, refusal) for what, refusal in (("changed", 20), ("changed back", 0))
-            for state in ("empty", "some", "full") for at in range(log.BLOCK)}
+            for state in STATES for at in range(log.BLOCK)}
            | {("bit", at, bit, 20) for at in EDGES for bit in range(8)})
 
 POKES = {("poke", "inside"), ("poke", "beyond"), ("poke", "same")}

@@ -1,5 +1,5 @@
-"""What the lister prints of a log: with --verify a row for each block, with --log a row for each telegram. Run as a program with one of
-the two words it lists its standard input."""
+"""What the lister prints of a log: with --verify a row for each block, with --log a row for each telegram. Run as a program with one
+of the two words it lists its standard input."""
 
 import sys
 

@@ -42,7 +42,8 @@ def told(what, value, refusal):
 
 
 class Change(NamedTuple):
-    """A single byte changed in a good region, or changed back: the region as it was, how full its block was, where in it, which bits."""
+    """A single byte changed in a good region, or changed back: the region as it was, how full its block was, where in it, and which
+    bits."""
     what: str
     before: bytes
     state: str
@@ -100,8 +101,8 @@ class Script:
 
     def verify(self):
         verified = log.verify(self.region)
-        line = {None: b"verify good\n", 19: b"verify refused 19\n"}.get(verified.refusal) or b"verify refused 20 at %d\n" % verified.block
-        self.step(b"V", line, self.region)
+        at = b" at %d" % verified.block if verified.refusal == 20 else b""
+        self.step(b"V", b"verify good\n" if verified.refusal is None else b"verify refused %d%s\n" % (verified.refusal, at), self.region)
         self.kinds.update(log_kinds.of_verify(self.region, verified))
         if self.change:
             what, _, state, at, bits = self.change
@@ -117,8 +118,8 @@ class Script:
                 self.poke(BLOCK * number + at, byte)
 
     def read_all(self):
-        """Every used slot of a good block and the next one; the first and the last slot of a bad one, and the one behind; and the block
-        behind the last."""
+        """Every used slot of a good block and the next one; the first and the last slot of a bad one, and the one behind; and the
+        block behind the last."""
         blocks = log.blocks_of(self.region)
         for number, block in enumerate(blocks):
             for slot in range(block[COUNT_AT] + 1) if log.is_good(block) else (0, SLOTS - 1, SLOTS):
@@ -144,10 +145,12 @@ def of_all_layouts(dice, number):
 REFUSED = {
     1: [b"", b"\x02", b"\x02\x03", b"\x02E312345617049\n\r\x03", b"\x02E31234561704966\n\r\x03", b"E3123456170496\n\r", b"\x02" * 31,
         b"\x02E3123456170496\n\r\x03\x00", b"\x02235959\n\x03", b"\x02U\x03"],
-    2: [b"\x03E3123456170496\n\r\x03", b"\x02E3123456170496\n\r\x02", b"E312345617041996\n\r", b"\x00235959\n\r\x03", b"\x02235959\r\n\x00"],
+    2: [b"\x03E3123456170496\n\r\x03", b"\x02E3123456170496\n\r\x02", b"E312345617041996\n\r", b"\x00235959\n\r\x03",
+        b"\x02235959\r\n\x00"],
     3: [b"\x02E3123456170496\r\n\x03", b"\x021 123456 030196 3\n\r\x03", b"\x02235959\n\n\x03", b"\x0223:59:59 \r\n\x03"],
     4: [b"\x02E312345617049A\n\r\x03", b"\x022359 9\r\n\x03", b"\x02C32b345603011996\n\r\x03"],
-    5: [b"\x02G3123456170496\n\r\x03", b"\x02E0123456170496\n\r\x03", b"\x02A 123456 030196 3\r\n\x03", b"\x02E8123456170496\n\r\x03"],
+    5: [b"\x02G3123456170496\n\r\x03", b"\x02E0123456170496\n\r\x03", b"\x02A 123456 030196 3\r\n\x03",
+        b"\x02E8123456170496\n\r\x03"],
     6: [b"\x02240000\n\r\x03", b"\x02E3126056170496\n\r\x03", b"\x02C6235960311216\n\r\x03", b"\x02E3123456171396\n\r\x03"],
     7: [b"\x02C6120000290297\n\r\x03", b"\x02C6120000310496\n\r\x03", b"\x02C612000030022000\n\r\x03"],
     8: [b"\x02E4123456170496\n\r\x03", b"\x0212 34 56 03 01 96 14 \r\n\x03", b"\x02C1005960010117\n\r\x03"],
@@ -220,7 +223,7 @@ def with_sum(dice, check, numbers):
 # --- damage ---
 
 def wrong_checks(dice, block):
-    """Checks that do not fit, among them the right one with its bytes exchanged, and with 65,521 added where two bytes can hold it."""
+    """Checks that do not fit, among them the right one with its bytes exchanged, and with 65,521 added where two bytes hold it."""
     low, high = block[CHECK_AT:]
     for wrong in ((low ^ 1, high), (low, high ^ 1), (low ^ 128, high), (low, high ^ 128), (low ^ 1, high ^ 1), (high, low), (255, 255),
                   (0, 0), (low, dice.randrange(256)), (dice.randrange(256), high)):
@@ -394,8 +397,8 @@ def gaps(dice):
 
 # Each block is good with so many telegrams, or bad (None).
 BESIDE_BAD_ONES = (
-    (None,), (None, None), (None, None, None, None), (None, 0), (0, None), (None, 3), (3, None), (15, None), (15, None, None), (15, None, 0),
-    (15, None, None, 0), (15, None, 2), (None, 15), (None, 15, 0), (15, 15, None, 0), (14, None), (14, None, 0), (0, None, 0),
+    (None,), (None, None), (None, None, None, None), (None, 0), (0, None), (None, 3), (3, None), (15, None), (15, None, None),
+    (15, None, 0), (15, None, None, 0), (15, None, 2), (None, 15), (None, 15, 0), (15, 15, None, 0), (14, None), (14, None, 0), (0, None, 0),
     (None, 0, None, 0), (4, None, 15, None), (4, None, 15, None, 0), (None, 0, None), (2, None, 0, None, 15))
 
 
@@ -434,7 +437,8 @@ def after_damage(script, dice, number):
 
 
 def damages(dice):
-    """Every kind of damage of a block with some telegrams, of a full one and of an empty one: the first block, a middle one, the last."""
+    """Every kind of damage of a block with some telegrams, of a full one and of an empty one: the first block, a middle one, the
+    last."""
     for counts, number in (((5, 3, 0), 0), ((15, 5, 0), 1), ((2, 15, 5), 2), ((15, 1, 0), 0), ((2, 15, 1), 1), ((1, 1, 15), 2)):
         script = filled(dice, counts)
         good = log.block_at(script.region, number)
@@ -524,11 +528,9 @@ def odd_lengths(dice):
         script.read_all()
         script.add(good_telegram(dice))
         if length >= BLOCK:
-            script.poke(COUNT_AT, 200)
+            script.poke(ZEROS_AT, 1)
             script.verify()
             script.read_all()
-            script.read(0, 14)
-            script.read(0, 15)
             script.add(good_telegram(dice))
         yield script
 
@@ -562,8 +564,8 @@ def pokes(dice):
 
 def by_hand(dice):
     """All scripts that are no matter of dice, but for the telegrams in them."""
-    for kind in (to_full, refused_telegrams, gaps, beside_bad_ones, damages, beyond_the_modulus, rubbish_blocks, single_bytes, odd_lengths,
-                 numbers, pokes):
+    for kind in (to_full, refused_telegrams, gaps, beside_bad_ones, damages, beyond_the_modulus, rubbish_blocks, single_bytes,
+                 odd_lengths, numbers, pokes):
         yield from kind(dice)
 
 
@@ -594,7 +596,7 @@ def some_place(script, dice):
         return dice.randrange(65536)
     start = BLOCK * dice.randrange(len(script.region) // BLOCK + 1)
     if dice.random() < 0.5:
-        return start + dice.choice([0, 1, SLOT, SLOT * dice.randrange(SLOTS), COUNT_AT, ZEROS_AT, CHECK_AT - 1, CHECK_AT, CHECK_AT + 1])
+        return start + dice.choice([0, 1, SLOT * dice.randrange(SLOTS), COUNT_AT, ZEROS_AT, CHECK_AT - 1, CHECK_AT, CHECK_AT + 1])
     return start + dice.randrange(BLOCK)
 
 
@@ -657,8 +659,9 @@ class Dealer:
 
     def one(self):
         """One operation or some."""
-        self.dice.choices([self.damage, self.count, self.fit, self.repair, self.clear, self.add, self.add_some, self.read, self.verify],
-                          weights=[6, 3, 6, 8, 0.3, 14, 8, 16, 12])[0]()
+        chances = {self.damage: 6, self.count: 3, self.fit: 6, self.repair: 8, self.clear: 0.3, self.add: 14, self.add_some: 8, self.read: 16,
+                   self.verify: 12}
+        self.dice.choices(list(chances), chances.values())[0]()
 
 
 def by_dice(dice):

@@ -23,9 +23,9 @@ def log_of(telegrams, blocks):
 
 
 def month():
-    """Deliveries around the end of 2016, a leap second night, stamped by cabinets with boards of several layouts: on the pier (6021), at
-    the workshop (2000), at the jetty (5500, quartz time for an hour), in the old shed (5050), and on two hand pumps that print the
-    time only. A visitor's board sends UTC."""
+    """Deliveries around the end of 2016, a leap second night, stamped by cabinets with boards of several layouts: on the pier (6021),
+    at the workshop (2000), at the jetty (5500, quartz time for an hour), in the old shed (5050), and on hand pumps that print the time
+    only. A visitor's board sends UTC."""
     return [
         stamp_6021(b"C6214007311216"), stamp_6021(b"C6214951311216"), stamp_2000(b"C621550231122016"), stamp_6021(b"C6220105311216"),
         stamp_5500(b"1 220312 311216 6"), stamp_5500(b"1 221040 311216 6"), stamp_6021(b"221200"), stamp_5050(b"22 15 30 31 12 16 06 "),
@@ -40,8 +40,8 @@ def month():
 
 
 def damaged():
-    """The same with one digit changed in the middle block: a stamp two minutes before the new year says an hour earlier. It would still
-    read."""
+    """The same with one digit changed in the middle block: a stamp two minutes before the new year says an hour earlier. It would
+    still read."""
     return log_of(month(), 3).replace(b"C6235812311216", b"C6225812311216")
 
 

@@ -821,21 +821,24 @@ def log_by_hand():
             same("log", (len(pump_block(number)), log.is_good(pump_block(number)), bytes(region)), (512, True, pump_block(number)))
         same("log", outcome(log.add, region, PUMP), ((0, number), None) if number < 15 else (None, 21))
     same("log", bytes(region), pump_block(15))
-    for at, byte in ((510, 0xe9), (511, 0x0a), (480, 2), (480, 0), (0, 9), (0, 11), (31, 1), (32, 10), (481, 1), (509, 1), (3, ord("1"))):
+    for at, byte in ((510, 0xe9), (511, 0x0a), (480, 2), (480, 0), (0, 9), (0, 11), (31, 1), (32, 10), (481, 1), (509, 1), (3, 49)):
         changed = bytearray(pump_block(1))
         changed[at] = byte
         same("log", log.is_good(bytes(changed)), False)
         same("log", outcome(log.read_back, changed + pump_block(4), 1, 3), (PUMP, None))
-        for ask, number in (((0, 0), 20), ((0, 15), 20), ((1, 4), 27), ((1, 15), 27), ((2, 0), 27), ((2 ** 55, 0), 27), ((1, 2 ** 59), 27)):
+        for ask, number in (((0, 0), 20), ((0, 15), 20), ((1, 4), 27), ((1, 15), 27), ((2, 0), 27), ((2 ** 55, 0), 27),
+                            ((1, 2 ** 59), 27)):
             same("log", outcome(log.read_back, changed + pump_block(4), *ask), (None, number))
-        for region, verified in ((changed, (20, 0)), (pump_block(2) + changed, (20, 1)), (changed + b"1", (19, None)), (b"", (None, None))):
+        for region, verified in ((changed, (20, 0)), (pump_block(2) + changed, (20, 1)), (changed + b"1", (19, None)),
+                                 (b"", (None, None))):
             same("log", log.verify(region), verified)
         same("log", outcome(log.add, changed + pump_block(4), PUMP), ((1, 4), None))
         for more, answer in ((b"", (None, 21)), (bytes(512), ((2, 0), None))):
             same("log", outcome(log.add, bytearray(pump_block(15) + changed + more), PUMP), answer)
     empty_but_more = bytes(510) + (65521).to_bytes(2, "little")
     same("log", (log.is_good(bytes(512)), log.is_good(empty_but_more)), (True, False))
-    for telegram, region, number in ((b"", b"1", 1), (PUMP[:-1], b"", 1), (PUMP[1:] + b"1", b"", 2), (PUMP, b"1", 19), (PUMP, b"", 21)):
+    for telegram, region, number in ((b"", b"1", 1), (PUMP[:-1], b"", 1), (PUMP[1:] + b"1", b"", 2), (PUMP, b"1", 19),
+                                     (PUMP, b"", 21)):
         same("log", outcome(log.add, bytearray(region), telegram), (None, number))
 
 
@@ -899,8 +902,8 @@ def free_by_scan(region):
 
 
 def log_adds(dice):
-    """Into k zeroed blocks 15 times k telegrams go, in order, and no more. Each changes its slot, and its block's number and check; all
-    of them are read back."""
+    """Into k zeroed blocks 15 times k telegrams go, in order, and no more. Each changes its slot, and its block's number and check;
+    all of them are read back."""
     for blocks in range(9):
         region = bytearray(512 * blocks)
         there = log_scripts.of_all_layouts(dice, 15 * blocks)
@@ -965,7 +968,8 @@ def replayed(given):
         else:
             number, block = log.verify(region)
             line = "verify good" if number is None else f"verify refused {number}" + (f" at {block}" if number == 20 else "")
-        rows = [f" {row} {region[row:row + 32].hex()}" for row in range(0, len(region), 32) if region[row:row + 32] != before[row:row + 32]]
+        rows = [f" {row} {region[row:row + 32].hex()}" for row in range(0, len(region), 32)
+                if region[row:row + 32] != before[row:row + 32]]
         printed += [line, *rows]
     return "".join(text + "\n" for text in printed).encode("ascii")
 
