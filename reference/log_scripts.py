@@ -102,7 +102,8 @@ class Script:
     def verify(self):
         verified = log.verify(self.region)
         at = b" at %d" % verified.block if verified.refusal == 20 else b""
-        self.step(b"V", b"verify good\n" if verified.refusal is None else b"verify refused %d%s\n" % (verified.refusal, at), self.region)
+        line = b"verify good\n" if verified.refusal is None else b"verify refused %d%s\n" % (verified.refusal, at)
+        self.step(b"V", line, self.region)
         self.kinds.update(log_kinds.of_verify(self.region, verified))
         if self.change:
             what, _, state, at, bits = self.change
@@ -225,8 +226,8 @@ def with_sum(dice, check, numbers):
 def wrong_checks(dice, block):
     """Checks that do not fit, among them the right one with its bytes exchanged, and with 65,521 added where two bytes hold it."""
     low, high = block[CHECK_AT:]
-    for wrong in ((low ^ 1, high), (low, high ^ 1), (low ^ 128, high), (low, high ^ 128), (low ^ 1, high ^ 1), (high, low), (255, 255),
-                  (0, 0), (low, dice.randrange(256)), (dice.randrange(256), high)):
+    for wrong in ((low ^ 1, high), (low, high ^ 1), (low ^ 128, high), (low, high ^ 128), (low ^ 1, high ^ 1), (high, low),
+                  (255, 255), (0, 0), (low, dice.randrange(256)), (dice.randrange(256), high)):
         if wrong != (low, high):
             yield changed(block, CHECK_AT, *wrong)
     if log.check_of(block) + log.MODULUS < 65536:
@@ -398,8 +399,8 @@ def gaps(dice):
 # Each block is good with so many telegrams, or bad (None).
 BESIDE_BAD_ONES = (
     (None,), (None, None), (None, None, None, None), (None, 0), (0, None), (None, 3), (3, None), (15, None), (15, None, None),
-    (15, None, 0), (15, None, None, 0), (15, None, 2), (None, 15), (None, 15, 0), (15, 15, None, 0), (14, None), (14, None, 0), (0, None, 0),
-    (None, 0, None, 0), (4, None, 15, None), (4, None, 15, None, 0), (None, 0, None), (2, None, 0, None, 15))
+    (15, None, 0), (15, None, None, 0), (15, None, 2), (None, 15), (None, 15, 0), (15, 15, None, 0), (14, None), (14, None, 0),
+    (0, None, 0), (None, 0, None, 0), (4, None, 15, None), (4, None, 15, None, 0), (None, 0, None), (2, None, 0, None, 15))
 
 
 def beside_bad_ones(dice):
@@ -659,8 +660,8 @@ class Dealer:
 
     def one(self):
         """One operation or some."""
-        chances = {self.damage: 6, self.count: 3, self.fit: 6, self.repair: 8, self.clear: 0.3, self.add: 14, self.add_some: 8, self.read: 16,
-                   self.verify: 12}
+        chances = {self.damage: 6, self.count: 3, self.fit: 6, self.repair: 8, self.clear: 0.3, self.add: 14, self.add_some: 8,
+                   self.read: 16, self.verify: 12}
         self.dice.choices(list(chances), chances.values())[0]()
 
 
