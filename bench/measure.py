@@ -1,5 +1,5 @@
 #!/usr/bin/env python3
-"""Counts the instructions that the proved reader and a plain C reader take, as differences of two runs of a program.
+"""Counts the instructions that the proved programs and a plain C reader take, as differences of two runs of a program.
 
     python3 -B bench/measure.py
 
@@ -16,6 +16,15 @@ import tempfile
 ROOT = pathlib.Path(__file__).resolve().parent.parent
 HERE = ROOT / "bench"
 TELEGRAM = b"\x02E3123456170496\n\r\x03"
+SLOTS, SLOT = 15, 32
+
+
+def block(used):
+    """A block of the log with so many slots used."""
+    slots = bytes([len(TELEGRAM)]) + TELEGRAM.ljust(SLOT - 1, b"\0")
+    body = (slots * used).ljust(SLOTS * SLOT, b"\0") + bytes([used]) + bytes(29)
+    return body + (sum(byte * place for place, byte in enumerate(body, 1)) % 65521).to_bytes(2, "little")
+
 
 # What is counted: the program's letter, one unit of work, and how many units the two runs have.
 WORK = [
@@ -23,6 +32,8 @@ WORK = [
     ("a 6021 telegram on a line", b"l", TELEGRAM, 1000, 2000),
     ("a stray byte", b"l", b"x", 20000, 40000),
     ("a 6021 telegram written", b"w", TELEGRAM, 1000, 2000),
+    ("an empty block verified", b"v", block(0), 50, 100),
+    ("a full block verified", b"v", block(SLOTS), 50, 100),
 ]
 
 
@@ -53,6 +64,20 @@ def cost(plugin, command, letter, unit, few, many):
     return (more - less) / (many - few), (first, second)
 
 
+def cost_of_adds(plugin, command):
+    """Instructions for one of the 15 adds that fill a region of one block: a full one takes none of them."""
+    first, less = counted(plugin, command, b"a" + block(SLOTS))
+    second, more = counted(plugin, command, b"a" + block(0))
+    return (more - less) / SLOTS, (first, second)
+
+
+def show(name, ours, theirs):
+    """A row of both counts; what the programs print must be the same."""
+    if ours[1] != theirs[1]:
+        sys.exit(f"{name}: {ours[1]} by the proved program, {theirs[1]} by the plain one")
+    print(f"{name:26}{ours[0]:9.1f}{theirs[0]:9.1f}{ours[0] / theirs[0]:8.1f}")
+
+
 def main():
     kit = toolchain()
     run("rt", "check", "measured")
@@ -66,14 +91,12 @@ def main():
         proved = [library / "ld-linux-x86-64.so.2", "--library-path", library, ROOT / "target" / "bin" / "measured"]
         print("instructions for      proved   plain C   ratio")
         for name, letter, unit, few, many in WORK:
-            ours, printed = cost(plugin, proved, letter, unit, few, many)
+            ours = cost(plugin, proved, letter, unit, few, many)
             if letter == b"w":
-                print(f"{name:26}{ours:9.1f}")
-                continue
-            theirs, same = cost(plugin, [plain], letter, unit, few, many)
-            if printed != same:
-                sys.exit(f"{name}: {printed} by the proved reader, {same} by the plain one")
-            print(f"{name:26}{ours:9.1f}{theirs:9.1f}{ours / theirs:8.1f}")
+                print(f"{name:26}{ours[0]:9.1f}")
+            else:
+                show(name, ours, cost(plugin, [plain], letter, unit, few, many))
+        show("an add to one block", cost_of_adds(plugin, proved), cost_of_adds(plugin, [plain]))
 
 
 if __name__ == "__main__":

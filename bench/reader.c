@@ -1,6 +1,6 @@
-/* A plain C reader of the same telegrams and lines, to be measured beside the proved one: the same seven layouts, the same refusals,
-   the same byte by byte reader. It takes what the program `measured` takes, and prints what that prints: a letter, r or l, and then
-   6021 telegrams of 18 bytes to read, or a line to feed. */
+/* A plain C reader of the same telegrams, lines and logs, to be measured beside the proved one: the same seven layouts, the same
+   refusals, the same byte by byte reader, the same blocks. It takes what the program `measured` takes, and prints what that prints: a
+   letter, r, l, v or a, and then 6021 telegrams of 18 bytes to read, a line to feed, or a region to verify or to add to. */
 typedef unsigned char byte;
 typedef unsigned int count;
 
@@ -201,6 +201,73 @@ static int feed(struct reader *reader, const byte *piece, count length, count *t
     return 0;
 }
 
+/* --- the log --- */
+
+enum { SLOTS = 15, SLOT = 32, COUNT = 480, CHECK = 510, BLOCK = 512 };
+
+static count check_of(const byte *block) {
+    count sum = 0;
+    for (count at = 0; at < CHECK; at++)
+        sum += block[at] * (at + 1);
+    return sum % 65521;
+}
+
+static int is_zero(const byte *bytes, count length) {
+    for (count at = 0; at < length; at++)
+        if (bytes[at] != 0)
+            return 0;
+    return 1;
+}
+
+static int is_good(const byte *block) {
+    struct record record;
+    count used = block[COUNT];
+    if (used > SLOTS || !is_zero(block + SLOT * used, COUNT - SLOT * used) || !is_zero(block + COUNT + 1, CHECK - COUNT - 1))
+        return 0;
+    if ((count)(block[CHECK] + 256 * block[CHECK + 1]) != check_of(block))
+        return 0;
+    for (const byte *slot = block; slot < block + SLOT * used; slot += SLOT) {
+        count length = slot[0];
+        if (length >= SLOT || read_telegram(slot + 1, length, &record) != 0 || !is_zero(slot + 1 + length, SLOT - 1 - length))
+            return 0;
+    }
+    return 1;
+}
+
+/* The first bad block, or the number of blocks. */
+static count good_blocks(const byte *region, count length) {
+    for (count at = 0; at < length / BLOCK; at++)
+        if (!is_good(region + BLOCK * at))
+            return at;
+    return length / BLOCK;
+}
+
+/* Whether a telegram found a place: behind the last slot used in any good block. */
+static int add(byte *region, count length, const byte *telegram, count size) {
+    struct record record;
+    byte *found = 0;
+    if (read_telegram(telegram, size, &record) != 0 || length % BLOCK != 0)
+        return 0;
+    for (byte *block = region; block < region + length; block += BLOCK) {
+        if (!is_good(block))
+            continue;
+        if (block[COUNT] > 0)
+            found = block[COUNT] < SLOTS ? block : 0;
+        else if (!found)
+            found = block;
+    }
+    if (!found)
+        return 0;
+    byte *slot = found + SLOT * found[COUNT]++;
+    slot[0] = size;
+    for (count at = 0; at < size; at++)
+        slot[1 + at] = telegram[at];
+    count check = check_of(found);
+    found[CHECK] = check % 256;
+    found[CHECK + 1] = check / 256;
+    return 1;
+}
+
 /* --- the program --- */
 
 static long system_call(long number, long a, long b, long c) {
@@ -246,10 +313,26 @@ static count events_of(const byte *data, count length) {
     return events;
 }
 
+static count added(byte *region, count length) {
+    count adds = 0;
+    while (add(region, length, (const byte *)"\x02" "E3123456170496\n\r\x03", 18))
+        adds++;
+    return adds;
+}
+
+static count work(byte letter, byte *data, count length) {
+    switch (letter) {
+    case 'l': return events_of(data, length);
+    case 'v': return good_blocks(data, length);
+    case 'a': return added(data, length);
+    default: return good_telegrams(data, length);
+    }
+}
+
 /* The stack is where the kernel left it, and not as a call would leave it. */
 __attribute__((force_align_arg_pointer)) void _start(void) {
     count length = read_all();
     if (length > 0)
-        print(input[0] == 'l' ? events_of(input + 1, length - 1) : good_telegrams(input + 1, length - 1));
+        print(work(input[0], input + 1, length - 1));
     system_call(60, 0, 0, 0);
 }

@@ -1,6 +1,7 @@
 """What the program `measured` should print for its input: a letter and what is to be worked on."""
 
 import line
+import log
 import telegrams
 from refusals import outcome
 
@@ -33,10 +34,28 @@ def events_of(captured):
     return events
 
 
+def good_blocks(region):
+    """The number of the first bad block, or of all blocks; 0 where the region is not whole blocks."""
+    verdict = log.verify(region)
+    return len(region) // log.BLOCK if verdict.refusal is None else verdict.block or 0
+
+
+def added(region):
+    """How often the telegram can be added."""
+    count = 0
+    while outcome(log.add, region, TELEGRAM)[1] is None:
+        count += 1
+    return count
+
+
 def printed(given):
     """The number that the program prints."""
     letter, rest = given[:1], given[1:]
     if letter == b"l":
         return b"%d\n" % events_of(rest)
+    if letter == b"v":
+        return b"%d\n" % good_blocks(rest)
+    if letter == b"a":
+        return b"%d\n" % added(bytearray(rest))
     goes_well = reads if letter == b"r" else writes
     return b"%d\n" % sum(goes_well(rest[at:at + SIZE]) for at in range(0, len(rest) - SIZE + 1, SIZE))

@@ -1,11 +1,15 @@
-// Work to be measured, chosen by the first byte of standard input. The rest is for r and w 6021 telegrams of 18 bytes each, and
-// for l any line: r reads each telegram, w writes the record of each anew, l feeds the line to a reader.
-// It prints how often that went well, and of a line how many events it has.
+// Work to be measured, chosen by the first byte of standard input. The rest is for r and w 6021 telegrams of 18 bytes each, for
+// l any line, and for v and a the region of a log: r reads each telegram, w writes the record of each anew, l feeds the line to a
+// reader, v verifies the region, a adds one telegram to it until that is refused.
+// It prints how often that went well, of a line how many events it has, and of a region the number of its first bad block, or
+// that of all blocks where none is bad.
 use calendar::date::Date;
 use calendar::time::Time;
 use libc::STDIN_FILENO;
 use libc::STDOUT_FILENO;
 use line::Reader;
+use log::add::AddAnswer;
+use log::verify::Verified;
 use record::DatedLayout;
 use record::Reception;
 use record::Record;
@@ -112,11 +116,57 @@ fn events(data: &[u8]) -> u64 {
     heard
 }
 
-fn work(mode: u8, data: &[u8]) -> u64 {
+fn good_blocks(region: &[u8]) -> u64 {
+    match log::verify::verify(region) {
+        Verified::AllGood => (region.len() / log::BLOCK_SIZE) as u64,
+        Verified::Bad(_, block) => block as u64,
+        Verified::Refused(_) => 0,
+    }
+}
+
+fn adds(region: &mut [u8]) -> bool {
+    match log::add::add(region, b"\x02E3123456170496\n\r\x03") {
+        AddAnswer::Added(_) => true,
+        AddAnswer::Refused(_) => false,
+    }
+}
+
+// No region has more free slots than bytes.
+fn added(region: &mut [u8]) -> u64 {
+    let length = region.len();
+    let mut count: usize = 0;
+    while count < length {
+        if !adds(region) {
+            return count as u64;
+        }
+        count += 1;
+    }
+    count as u64
+}
+
+fn work(mode: u8, data: &mut [u8]) -> u64 {
     if mode == b'l' {
         return events(data);
     }
+    if mode == b'v' {
+        return good_blocks(data);
+    }
+    if mode == b'a' {
+        return added(data);
+    }
     each(mode, data)
+}
+
+// The first bytes of the input, behind the letter.
+fn work_on(input: &mut [u8], length: usize) -> u64 {
+    if length == 0 {
+        return 0;
+    }
+    if length > input.len() {
+        return 0;
+    }
+    let mode = input[0];
+    work(mode, &mut input[1..length])
 }
 
 fn main() {
@@ -125,7 +175,7 @@ fn main() {
     if length == 0 {
         return;
     }
-    let good = work(input[0], &input[1..length]);
+    let good = work_on(&mut input, length);
     io::print_decimal(STDOUT_FILENO, good);
     io::write_all(STDOUT_FILENO, b"\n");
 }
