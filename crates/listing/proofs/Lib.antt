@@ -1,5 +1,6 @@
 pub mod TextLaws
 pub mod DecimalLaws
 pub mod RowLaws
+pub mod LogRowLaws
 pub mod AsPrintedHolds
 pub mod Whole

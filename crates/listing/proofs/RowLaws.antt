@@ -6,7 +6,7 @@ use Prim.Native.Nat.{ℕ, _^_, _≤_, _<_}
 use native.Mathlib.Omega.{arith}
 use lib.Dec.{lit≤}
 use lib.ListN.{length, length-append}
-use Rattle.refusals.specs.Refusals.{done, refused}
+use Rattle.refusals.specs.Refusals.{done, refused, unless}
 use Rattle.refusals.proofs.Laws.{refuses, does}
 use Rattle.laying.specs.Laying.{laid}
 use Rattle.laying.proofs.LayingLaws.{laid-refused}
@@ -20,12 +20,11 @@ use Rattle.record.specs.declared.Reception.{Reception}
 use Rattle.record.specs.declared.Reception.the-variants.{Invalid, Crystal, Radio, High}
 use Rattle.record.specs.declared.Status.{Status}
 use Rattle.record.specs.declared.Record.{Record}
-use Rattle.record.specs.declared.RecordAnswer.{RecordAnswer}
-use Rattle.record.specs.declared.RecordAnswer.the-variants as answer
+use Rattle.record.specs.declared.Record.the-variants.{Dated, TimeOnly}
 use Rattle.record.specs.Rule.{refusalOf}
 use Rattle.ascii.specs.Ascii.{ascii}
 use Rattle.listing.specs.Decimals.{decimal}
-use Rattle.listing.specs.Listing.{headerRow, datedKind, timeKind, receptionWord, seasonWord, statusColumn, datedRow, timeRow, recordRow, refusedRow, eventRow, strayRow, longestRow}
+use Rattle.listing.specs.Listing.{headerRow, datedKind, timeKind, receptionWord, seasonWord, statusColumn, datedColumns, timeOnlyColumns, columns, recordRow, refusedRow, strayRow, longestRow}
 use Rattle.listing.proofs.DecimalLaws.{few-digits}
 
 dated-kind-length : (layout : DatedLayout) → length (datedKind layout) ≡ 4
@@ -60,43 +59,51 @@ status-length status =
     simp length-append
     (omega (arith, reception-length (status .reception), season-length (status .daylight), word-length (status .utc) (ascii ",utc"), word-length (status .announced) (ascii ",announced")))
 
--- a count of 32 bits has at most ten digits, a number of 8 bits at most three
+-- a number of 64 bits has at most twenty digits, one of 32 bits ten, one of 8 bits three
+pub wide-length : (n : ℕ) → n < 2 ^ 64 → length (decimal n) ≤ 20
+wide-length n h = few-digits 19 n (omega arith)
+
 count-length : (n : ℕ) → n < 2 ^ 32 → length (decimal n) ≤ 10
 count-length n h = few-digits 9 n (omega arith)
 
-number-length : (n : ℕ) → n < 2 ^ 8 → length (decimal n) ≤ 3
+pub number-length : (n : ℕ) → n < 2 ^ 8 → length (decimal n) ≤ 3
 number-length n h = few-digits 2 n (omega arith)
+
+dated-length : (layout : DatedLayout) (status : Status) (weekday : ℕ) (date : Date) (time : Time)
+    → length (datedColumns layout status weekday date time) ≤ 58
+unfolding datedColumns
+dated-length layout status weekday date time = simp length-append (omega (arith, dated-kind-length layout, status-length status))
+
+time-only-length : (layout : TimeLayout) (time : Time) → length (timeOnlyColumns layout time) ≤ 58
+unfolding timeOnlyColumns
+time-only-length layout time = simp length-append (omega (arith, time-kind-length layout))
+
+-- the columns behind the place of a telegram
+pub columns-length : (rec : Record) → length (columns rec) ≤ 58
+columns-length (Dated layout status weekday date time) = dated-length layout status weekday date time
+columns-length (TimeOnly layout time) = time-only-length layout time
 
 pub header-short : length headerRow ≤ longestRow
 unfolding headerRow
 header-short = lit≤ tt
 
-module _ (start : ℕ) (counted : start < 2 ^ 32) where
-  pub dated-short : (layout : DatedLayout) (status : Status) (weekday : ℕ) (date : Date) (time : Time)
-      → length (datedRow start layout status weekday date time) ≤ longestRow
-  unfolding datedRow
-  dated-short layout status weekday date time =
-      simp length-append (omega (arith, count-length start counted, dated-kind-length layout, status-length status))
+pub record-short : (start : ℕ) → start < 2 ^ 32 → (rec : Record) → length (recordRow start rec) ≤ longestRow
+unfolding recordRow
+record-short start counted rec = simp length-append (omega (arith, count-length start counted, columns-length rec))
 
-  pub time-short : (layout : TimeLayout) (time : Time) → length (timeRow start layout time) ≤ longestRow
-  unfolding timeRow
-  time-short layout time = simp length-append (omega (arith, count-length start counted, time-kind-length layout))
+pub refused-short : (start number : ℕ) → start < 2 ^ 64 → number < 2 ^ 8 → length (refusedRow start number) ≤ longestRow
+unfolding refusedRow
+refused-short start number wide small = simp length-append (omega (arith, wide-length start wide, number-length number small))
 
-  pub refused-short : (number : ℕ) → number < 2 ^ 8 → length (refusedRow start number) ≤ longestRow
-  unfolding refusedRow
-  refused-short number h = simp length-append (omega (arith, count-length start counted, number-length number h))
-
-  pub stray-short : length (strayRow start) ≤ longestRow
-  unfolding strayRow
-  stray-short = simp length-append (omega (arith, count-length start counted))
+pub stray-short : (stray : ℕ) → stray < 2 ^ 32 → length (strayRow stray) ≤ longestRow
+unfolding strayRow
+stray-short stray counted = simp length-append (omega (arith, count-length stray counted))
 
 -- a record that the rule refuses has no row
-pub rule-refuses : (start : ℕ) (rec : Record) (out : List ℕ) (n : ℕ) → n ≡ refusalOf rec → (n ≡ 0 → ⊥)
-    → laid (eventRow start (answer.Good rec)) out ≡ (refused n, out)
-rule-refuses start rec out n e some = ap (λ o. laid o out) (sym (refuses (recordRow start rec) e some)) ∙ laid-refused n out
+pub rule-refuses : (rec : Record) (row out : List ℕ) (n : ℕ) → n ≡ refusalOf rec → (n ≡ 0 → ⊥)
+    → laid (unless (refusalOf rec) row) out ≡ (refused n, out)
+rule-refuses rec row out n e some = ap (λ o. laid o out) (sym (refuses row e some)) ∙ laid-refused n out
 
--- and any other has the row of its layout
-pub rule-passes : (start : ℕ) (outcome : RecordAnswer) (rec same : Record) (n : ℕ) → outcome ≡ answer.Good rec → rec ≡ same
-    → n ≡ refusalOf rec → n ≡ 0 → eventRow start outcome ≡ done (recordRow start same)
-rule-passes start outcome rec same n told is e none =
-    ap (eventRow start) told ∙ does (recordRow start rec) (sym e ∙ none) ∙ ap (λ r. done (recordRow start r)) is
+-- and any other has its row
+pub rule-passes : (rec : Record) (row : List ℕ) (n : ℕ) → n ≡ refusalOf rec → n ≡ 0 → unless (refusalOf rec) row ≡ done row
+rule-passes rec row n e none = does row (sym e ∙ none)

@@ -11,7 +11,6 @@ use Rattle.refusals.specs.Refusals.{Outcome, done, refused}
 use Rattle.laying.specs.Laying.{laid}
 use Rattle.laying.proofs.LayingLaws.{laid-short, laid-fits}
 use Rattle.listing.specs.declared.Text.{Text}
-use Rattle.listing.specs.Listing.{longestRow}
 use Rattle.listing.specs.Texts.{textRoom, emptyText, pushed, appended, contentOf}
 
 appended-twice : (text : Text) (xs ys : List ℕ) → appended text (xs ++ ys) ≡ appended (appended text xs) ys
@@ -77,12 +76,12 @@ holds text row e short =
     rw e (appended-holds emptyText [] row (record { room = refl; len = refl; content = refl }) (omega arith))
 
 -- so that it can be laid, and is what is laid
-module _ (text : Text) (row : List ℕ) (made : text ≡ appended emptyText row) (short : length row ≤ longestRow) where
+module _ (text : Text) (row : List ℕ) (made : text ≡ appended emptyText row) (short : length row ≤ textRoom) where
   pub small-enough : text .len ≤ textRoom
-  small-enough = omega (arith, holds text row made (omega arith) .len)
+  small-enough = omega (arith, holds text row made short .len)
 
   pub row-laid : {answer : Outcome ℕ × List ℕ} (out : List ℕ) → laid (done (contentOf text)) out ≡ answer → laid (done row) out ≡ answer
-  row-laid out e = ap (λ bytes. laid (done bytes) out) (sym (holds text row made (omega arith) .content)) ∙ e
+  row-laid out e = ap (λ bytes. laid (done bytes) out) (sym (holds text row made short .content)) ∙ e
 
 -- copying byte by byte over the first bytes of a buffer
 pub copy-step : (from out : List ℕ) (at : ℕ) → at < length from → at < length out

@@ -1,5 +1,7 @@
 pub mod Decimals
 pub mod Listing
+pub mod LogRows
 pub mod Texts
 pub mod Answers
 pub mod AsPrinted
+pub mod LogAsPrinted

@@ -63,24 +63,27 @@ statusColumn status =
     ++ cond (status .utc) (ascii ",utc") []
     ++ cond (status .announced) (ascii ",announced") []
 
--- "start;kind;date;time;weekday;status", as in "1;6021;1996-04-17;12:34:56;3;high,daylight"; each line ends in LF
-unfoldable pub datedRow : ℕ → DatedLayout → Status → ℕ → Date → Time → List ℕ
-datedRow start layout status weekday date time =
-    decimal start ++ ascii ";"
-    ++ datedKind layout ++ ascii ";"
+-- "kind;date;time;weekday;status", as in "6021;1996-04-17;12:34:56;3;high,daylight"; each line ends in LF
+unfoldable pub datedColumns : DatedLayout → Status → ℕ → Date → Time → List ℕ
+datedColumns layout status weekday date time =
+    datedKind layout ++ ascii ";"
     ++ dateColumn date ++ ascii ";"
     ++ timeColumn time ++ ascii ";"
     ++ (digit weekday ∷ []) ++ ascii ";"
     ++ statusColumn status ++ ascii "\n"
 
 -- "a time-only line has `-` for date, weekday and status"
-unfoldable pub timeRow : ℕ → TimeLayout → Time → List ℕ
-timeRow start layout time =
-    decimal start ++ ascii ";" ++ timeKind layout ++ ascii ";-;" ++ timeColumn time ++ ascii ";-;-\n"
+unfoldable pub timeOnlyColumns : TimeLayout → Time → List ℕ
+timeOnlyColumns layout time = timeKind layout ++ ascii ";-;" ++ timeColumn time ++ ascii ";-;-\n"
 
-abbrev pub recordRow : ℕ → Record → List ℕ
-recordRow start (Dated layout status weekday date time) = datedRow start layout status weekday date time
-recordRow start (TimeOnly layout time) = timeRow start layout time
+-- what a telegram's record says; in front of these columns stands where the telegram is
+abbrev pub columns : Record → List ℕ
+columns (Dated layout status weekday date time) = datedColumns layout status weekday date time
+columns (TimeOnly layout time) = timeOnlyColumns layout time
+
+-- "start;kind;date;time;weekday;status", as in "1;6021;1996-04-17;12:34:56;3;high,daylight"
+unfoldable pub recordRow : ℕ → Record → List ℕ
+recordRow start rec = decimal start ++ ascii ";" ++ columns rec
 
 -- as in "19;refused 11": a refused row has two columns
 unfoldable pub refusedRow : ℕ → ℕ → List ℕ
@@ -95,6 +98,6 @@ eventRow start (answer.Refused number) = done (refusedRow start number)
 unfoldable pub strayRow : ℕ → List ℕ
 strayRow stray = ascii "stray " ++ decimal stray ++ ascii "\n"
 
--- no row is longer
+-- no row of a line is longer
 abbrev pub longestRow : ℕ
 longestRow = 69

@@ -8,7 +8,7 @@ use Rattle.listing.specs.declared.Text.{Text}
 
 -- how many bytes a text has room for
 abbrev pub textRoom : ℕ
-textRoom = 80
+textRoom = 88
 
 -- nothing yet
 abbrev pub emptyText : Text

@@ -1,4 +1,5 @@
 // The listing: each row as bytes in a lent buffer.
+pub mod log_rows;
 pub mod rows;
 
 use refusals::BUFFER_SHORT;
@@ -18,11 +19,14 @@ pub enum RowAnswer {
     Refused(u8),
 }
 
-// No row of the listing has more bytes.
+// No row of a line's listing has more bytes.
 pub const LONGEST_ROW: usize = 69;
 
+// No row of a log's listings has more bytes.
+pub const LONGEST_LOG_ROW: usize = 83;
+
 // How many bytes a text has room for: no row is cut off.
-const TEXT_ROOM: usize = 80;
+const TEXT_ROOM: usize = 88;
 
 // A row in the making.
 struct Text {
@@ -31,7 +35,7 @@ struct Text {
 }
 
 // The character of a number's last digit.
-fn digit(n: u32) -> u8
+fn digit(n: u64) -> u8
     ensures { λ r. ⌜ r ≡ digit n ⌝ }
 {
     b'0' + (n % 10) as u8
@@ -49,17 +53,13 @@ impl Text {
     }
 
     // One byte more. What goes beyond the room is dropped.
-    fn push(self, byte: u8) -> Text
+    fn push(mut self, byte: u8) -> Text
         ensures { λ r. ⌜ r ≡ appended self (byte ∷ []) ⌝ }
     {
         let len = self.len;
         if len < TEXT_ROOM {
-            let mut bytes = self.bytes;
-            bytes[len] = byte;
-            return Text {
-                bytes: bytes,
-                len: len + 1,
-            };
+            self.bytes[len] = byte;
+            self.len = len + 1;
         }
         self
     }
@@ -88,7 +88,7 @@ impl Text {
     }
 
     // All digits of a number, without padding.
-    fn decimal(self, n: u32) -> Text
+    fn decimal(self, n: u64) -> Text
         ensures { λ r. ⌜ r ≡ appended self (decimal n) ⌝ }
     {
         if n < 10 {
@@ -98,14 +98,14 @@ impl Text {
     }
 
     // The last two digits, padded.
-    fn two(self, n: u32) -> Text
+    fn two(self, n: u64) -> Text
         ensures { λ r. ⌜ r ≡ appended self (two n) ⌝ }
     {
         self.push(digit(n / 10)).push(digit(n))
     }
 
     // The last four digits, padded.
-    fn four(self, n: u32) -> Text
+    fn four(self, n: u64) -> Text
         ensures { λ r. ⌜ r ≡ appended self (four n) ⌝ }
     {
         self.two(n / 100).two(n)

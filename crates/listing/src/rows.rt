@@ -14,7 +14,7 @@ use refusals::NONE;
 ghost use mathlib.Core.Path.{_≡_};
 ghost use Rattle.refusals.specs.Refusals.{done};
 ghost use Rattle.laying.specs.Laying.{laid};
-ghost use Rattle.listing.specs.Listing.{headerRow, datedKind, timeKind, dateColumn, timeColumn, receptionWord, seasonWord, statusColumn, datedRow, timeRow, refusedRow, eventRow, strayRow};
+ghost use Rattle.listing.specs.Listing.{headerRow, datedKind, timeKind, dateColumn, timeColumn, receptionWord, seasonWord, statusColumn, datedColumns, timeOnlyColumns, columns, recordRow, refusedRow, eventRow, strayRow};
 ghost use Rattle.listing.specs.Texts.{emptyText, appended};
 ghost use Rattle.listing.specs.Answers.{rowAnswer};
 
@@ -42,17 +42,17 @@ fn time_kind(text: Text, layout: TimeLayout) -> Text
 fn date_column(text: Text, date: Date) -> Text
     ensures { λ r. ⌜ r ≡ appended text (dateColumn date) ⌝ }
 {
-    let year = text.four(date.year as u32);
-    let month = year.push(b'-').two(date.month as u32);
-    month.push(b'-').two(date.day as u32)
+    let year = text.four(date.year as u64);
+    let month = year.push(b'-').two(date.month as u64);
+    month.push(b'-').two(date.day as u64)
 }
 
 fn time_column(text: Text, time: Time) -> Text
     ensures { λ r. ⌜ r ≡ appended text (timeColumn time) ⌝ }
 {
-    let hour = text.two(time.hour as u32);
-    let minute = hour.push(b':').two(time.minute as u32);
-    minute.push(b':').two(time.second as u32)
+    let hour = text.two(time.hour as u64);
+    let minute = hour.push(b':').two(time.minute as u64);
+    minute.push(b':').two(time.second as u64)
 }
 
 fn reception_word(text: Text, reception: Reception) -> Text
@@ -84,37 +84,53 @@ fn status_column(text: Text, status: Status) -> Text
     utc.append_if(status.announced, b",announced")
 }
 
-fn dated_row(
-    start: u32,
+fn dated_columns(
+    text: Text,
     layout: DatedLayout,
     status: Status,
     weekday: u8,
     date: Date,
     time: Time,
 ) -> Text
-    ensures { λ r. ⌜ r ≡ appended emptyText (datedRow start layout status weekday date time) ⌝ }
+    ensures { λ r. ⌜ r ≡ appended text (datedColumns layout status weekday date time) ⌝ }
 {
-    let started = Text::empty().decimal(start).push(b';');
-    let kind = dated_kind(started, layout).push(b';');
+    let kind = dated_kind(text, layout).push(b';');
     let day = date_column(kind, date).push(b';');
     let second = time_column(day, time).push(b';');
-    let week = second.push(digit(weekday as u32)).push(b';');
+    let week = second.push(digit(weekday as u64)).push(b';');
     status_column(week, status).push(b'\n')
 }
 
-fn time_row(start: u32, layout: TimeLayout, time: Time) -> Text
-    ensures { λ r. ⌜ r ≡ appended emptyText (timeRow start layout time) ⌝ }
+fn time_only_columns(text: Text, layout: TimeLayout, time: Time) -> Text
+    ensures { λ r. ⌜ r ≡ appended text (timeOnlyColumns layout time) ⌝ }
 {
-    let started = Text::empty().decimal(start).push(b';');
-    let kind = time_kind(started, layout).append(b";-;");
+    let kind = time_kind(text, layout).append(b";-;");
     time_column(kind, time).append(b";-;-\n")
 }
 
-fn refused_row(start: u32, number: u8) -> Text
+// The columns behind the place of a telegram: all that its record says.
+pub(crate) fn columns(text: Text, rec: Record) -> Text
+    ensures { λ r. ⌜ r ≡ appended text (columns rec) ⌝ }
+{
+    match rec {
+        Record::Dated(layout, status, weekday, date, time) => {
+            dated_columns(text, layout, status, weekday, date, time)
+        }
+        Record::TimeOnly(layout, time) => time_only_columns(text, layout, time),
+    }
+}
+
+fn record_row(start: u32, rec: Record) -> Text
+    ensures { λ r. ⌜ r ≡ appended emptyText (recordRow start rec) ⌝ }
+{
+    columns(Text::empty().decimal(start as u64).push(b';'), rec)
+}
+
+pub(crate) fn refused_row(start: u64, number: u8) -> Text
     ensures { λ r. ⌜ r ≡ appended emptyText (refusedRow start number) ⌝ }
 {
     let started = Text::empty().decimal(start);
-    let refused = started.append(b";refused ").decimal(number as u32);
+    let refused = started.append(b";refused ").decimal(number as u64);
     refused.push(b'\n')
 }
 
@@ -128,7 +144,7 @@ fn stray_row(stray: u32) -> Text
     ensures { λ r. ⌜ r ≡ appended emptyText (strayRow stray) ⌝ }
 {
     let words = Text::empty().append(b"stray ");
-    words.decimal(stray).push(b'\n')
+    words.decimal(stray as u64).push(b'\n')
 }
 
 // The first line of the listing; 13 for a buffer that is too short.
@@ -144,18 +160,13 @@ pub fn row(start: u32, answer: RecordAnswer, out: &mut [u8]) -> RowAnswer
     ensures { λ r. ⌜ laid (eventRow start answer) (now (out .entry)) ≡ (rowAnswer r, now (out .exit)) ⌝ }
 {
     match answer {
-        RecordAnswer::Refused(number) => refused_row(start, number).lay(out),
+        RecordAnswer::Refused(number) => refused_row(start as u64, number).lay(out),
         RecordAnswer::Good(rec) => {
             let refused = record::rule::refusal(rec);
             if refused != NONE {
                 return RowAnswer::Refused(refused);
             }
-            match rec {
-                Record::Dated(layout, status, weekday, date, time) => {
-                    dated_row(start, layout, status, weekday, date, time).lay(out)
-                }
-                Record::TimeOnly(layout, time) => time_row(start, layout, time).lay(out),
-            }
+            record_row(start, rec).lay(out)
         }
     }
 }

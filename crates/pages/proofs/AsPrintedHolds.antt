@@ -9,10 +9,10 @@ use Rattle.layouts.specs.Layouts.{placesOf, layoutOf}
 use Rattle.layouts.specs.Coding.{statusIn6021, statusIn5500}
 use Rattle.telegram.specs.Reading.{carried, bodyRefusal, readOf}
 use Rattle.listing.specs.Decimals.{decimal, decimalWithin}
-use Rattle.listing.specs.Listing.{headerRow, datedRow, refusedRow, strayRow, statusColumn}
+use Rattle.listing.specs.Listing.{headerRow, datedColumns, recordRow, refusedRow, strayRow, statusColumn}
 use Rattle.pages.specs.Whole.{listingOf}
 use Rattle.pages.specs.AsPrinted.{TheWholeListingIsAsPrinted}
 
 pub as-printed : TheWholeListingIsAsPrinted
-unfolding unless isDecimal isCapital codeValue isLeap monthLength monthInRange dateInRange dayExists monthStart dayOf timeInRange timeAllowed timeAloneAllowed timeAloneRefusal plainUtc tableCanSay statusAllowed weekdayAllowed weekdayAgrees datedRefusal placesOf layoutOf statusIn6021 statusIn5500 carried bodyRefusal readOf decimal decimalWithin headerRow datedRow refusedRow strayRow statusColumn listingOf
+unfolding unless isDecimal isCapital codeValue isLeap monthLength monthInRange dateInRange dayExists monthStart dayOf timeInRange timeAllowed timeAloneAllowed timeAloneRefusal plainUtc tableCanSay statusAllowed weekdayAllowed weekdayAgrees datedRefusal placesOf layoutOf statusIn6021 statusIn5500 carried bodyRefusal readOf decimal decimalWithin headerRow datedColumns recordRow refusedRow strayRow statusColumn listingOf
 as-printed = (refl, refl)

@@ -11,14 +11,13 @@ use Rattle.refusals.specs.Refusals.{done, refused}
 use Rattle.laying.specs.OneBehindAnother.{part, partThen, oneBehindAnother, endingIn}
 use Rattle.laying.proofs.LayingLaws.{within-fits}
 use Rattle.laying.proofs.OneBehindAnotherLaws.{first-part, Comes, none, more, ends-by-room}
-use Rattle.record.specs.declared.Record.the-variants.{Dated, TimeOnly}
 use Rattle.line.specs.declared.Reader.{Reader}
 use Rattle.line.specs.Line.{Line, Told, nothing, event, Feeding, stopOr, feedOf, toldBy, step, startOf, readerOf, heardFor, fedFor, freshLine, freshReader}
 use Rattle.line.specs.Cuts.{eventsOf}
 use Rattle.line.proofs.StaysGood.{Good, good-feed, feed-good, reader-of-good}
 use Rattle.line.proofs.CutLaws.{feed-parts, some-by, shorter, good-fresh}
 use Rattle.listing.specs.Listing.{longestRow}
-use Rattle.listing.proofs.RowLaws.{dated-short, time-short, refused-short}
+use Rattle.listing.proofs.RowLaws.{record-short, refused-short}
 use Rattle.pages.specs.Pages.{rowFor, Underway, behindCall, nextRow, rowsIn, pageFor, pageOf}
 use Rattle.pages.specs.Whole.{rowOfEvent, rowsOf, turnsWith, lentWith, AllListed, EveryCutCanBeListed}
 use Rattle.pages.proofs.PageLaws.{comes-some, comes-none, page-good, left-tail}
@@ -64,9 +63,8 @@ at-fits line (byte ∷ piece) =
 
 row-short : (told : Told) (at : ℕ) → at < 2 ^ 32 → Sound told → length (rowOfEvent (heardFor told at)) ≤ longestRow
 row-short nothing at fits sound = omega arith
-row-short (event (done (Dated layout status weekday date time)) size) at fits sound = dated-short at fits layout status weekday date time
-row-short (event (done (TimeOnly layout time)) size) at fits sound = time-short at fits layout time
-row-short (event (refused n) size) at fits sound = refused-short at fits n sound
+row-short (event (done rec) size) at fits sound = record-short at fits rec
+row-short (event (refused n) size) at fits sound = refused-short at n (omega arith) sound
 
 -- so a call takes a byte at least
 takes-some : (room : ℕ) → longestRow ≤ room → (line : Line) → Good line → (byte : ℕ) (piece : List ℕ)

@@ -5,19 +5,19 @@ use borrow.Author.Needs.{needs}
 use Rattle.listing.proofs.Text.push.Statement.{statement}
 use Rattle.listing.proofs.Text.push.Tie as tie
 
-array-write-bytes : tie.Need-array-write-bytes
-array-write-bytes c = search needs
+element-write-self : tie.Need-element-write-self
+element-write-self c = search needs
 
-add-t9 : tie.Need-add-t9
-add-t9 c = search needs
+add-self : tie.Need-add-self
+add-self c = search needs
 
 returns : tie.Need-returns
 unfolding appended pushed
-returns c = rw (lt-ltb _ _ (c .before .if1 .taken))
+returns c = rw (lt-ltb _ _ (c .if1 .taken))
 
 returns-2 : tie.Need-returns-2
 unfolding appended pushed
 returns-2 c = rw (le-ltb _ _ (c .if1 .left))
 
 pub push-spec : {M : Type 1} → statement M
-push-spec = tie.close (tie.spec array-write-bytes add-t9 returns returns-2)
+push-spec = tie.close (tie.spec element-write-self add-self returns returns-2)

@@ -1,4 +1,5 @@
 -- `listing::rows::header` meets its contract.
+use native.Mathlib.Omega.{arith}
 use Rattle.listing.proofs.TextLaws.{small-enough, row-laid}
 use Rattle.listing.proofs.RowLaws.{header-short}
 use borrow.Author.Needs.{needs}
@@ -9,13 +10,13 @@ header-row-requires : tie.Need-header-row-requires
 header-row-requires c κs = search needs
 
 lay-requires : tie.Need-lay-requires
-lay-requires c κs = small-enough _ _ (c .before .header-row .ensures) header-short
+lay-requires c κs = small-enough _ _ (c .before .header-row .ensures) (omega (arith, header-short))
 
 same-length : tie.Need-same-length
 same-length c = search needs
 
 returns : tie.Need-returns
-returns c = row-laid _ _ (c .before .before .before .before .header-row .ensures) header-short (c .before .before .before .before .before .before .args .out .now) (c .before .before .lay .ensures)
+returns c = row-laid _ _ (c .before .before .before .before .header-row .ensures) (omega (arith, header-short)) (c .before .before .before .before .before .before .args .out .now) (c .before .before .lay .ensures)
 
 pub header-spec : {M : Type 1} → statement M
 header-spec = tie.close (tie.spec header-row-requires lay-requires same-length returns)

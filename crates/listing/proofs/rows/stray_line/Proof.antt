@@ -10,13 +10,13 @@ stray-row-requires : tie.Need-stray-row-requires
 stray-row-requires c κs = search needs
 
 lay-requires : tie.Need-lay-requires
-lay-requires c κs = small-enough _ _ (c .before .stray-row .ensures) (stray-short (c .before .before .before .args .stray) (omega arith))
+lay-requires c κs = small-enough _ _ (c .before .stray-row .ensures) (omega (arith, stray-short (c .before .before .before .args .stray) (omega arith)))
 
 same-length : tie.Need-same-length
 same-length c = search needs
 
 returns : tie.Need-returns
-returns c = row-laid _ _ (c .before .before .before .before .stray-row .ensures) (stray-short (c .before .before .before .before .before .before .args .stray) (omega arith)) (c .before .before .before .before .before .before .args .out .now) (c .before .before .lay .ensures)
+returns c = row-laid _ _ (c .before .before .before .before .stray-row .ensures) (omega (arith, stray-short (c .before .before .before .before .before .before .args .stray) (omega arith))) (c .before .before .before .before .before .before .args .out .now) (c .before .before .lay .ensures)
 
 pub stray-line-spec : {M : Type 1} → statement M
 stray-line-spec = tie.close (tie.spec stray-row-requires lay-requires same-length returns)

@@ -1,0 +1,36 @@
+-- `listing::log_rows::bad_count` meets its contract.
+use Rattle.listing.specs.LogRows.{badCount}
+use Rattle.listing.proofs.TextLaws.{behind, from-empty}
+use borrow.Author.Needs.{needs}
+use Rattle.listing.proofs.log_rows.bad_count.Statement.{statement}
+use Rattle.listing.proofs.log_rows.bad_count.Tie as tie
+
+empty-requires : tie.Need-empty-requires
+empty-requires c κs = search needs
+
+slice-aggregate-append : tie.Need-slice-aggregate-append
+slice-aggregate-append c = search needs
+
+append-requires : tie.Need-append-requires
+append-requires c κs = search needs
+
+decimal-requires : tie.Need-decimal-requires
+decimal-requires c κs = search needs
+
+push-requires : tie.Need-push-requires
+push-requires c κs = search needs
+
+returns : tie.Need-returns
+unfolding badCount
+returns c = from-empty _ (c .before .before .before .before .empty .ensures) (behind _ _ _ (behind _ _ _ (c .before .before .append .ensures) (c .before .decimal .ensures)) (c .push .ensures))
+
+pub bad-count-spec : {M : Type 1} → statement M
+bad-count-spec =
+    tie.close
+    (tie.spec
+    empty-requires
+    slice-aggregate-append
+    append-requires
+    decimal-requires
+    push-requires
+    returns)
