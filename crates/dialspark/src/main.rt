@@ -1,13 +1,17 @@
-// Lists a captured line: a file that is named, or standard input, to its end, in pieces as they come. The listing goes to standard
-// output; what went wrong is told on standard error.
+// Lists a captured line, or a log: a file that is named, or standard input, to its end, in pieces as they come. The listing goes to
+// standard output; what went wrong is told on standard error.
+mod logs;
 mod words;
 
 use libc::STDERR_FILENO;
 use libc::STDIN_FILENO;
 use libc::STDOUT_FILENO;
+use logs::Rows;
 use printing::Output;
 use printing::Printer;
 use words::Asked;
+use words::Source;
+use words::Wanted;
 
 // The printer, and whether there may be more to read.
 struct Turn {
@@ -15,7 +19,7 @@ struct Turn {
     more: bool,
 }
 
-fn is_whole(output: Output) -> bool {
+pub(crate) fn is_whole(output: Output) -> bool {
     match output {
         Output::Whole => true,
         Output::Failed => false,
@@ -24,7 +28,7 @@ fn is_whole(output: Output) -> bool {
 }
 
 // Told right after the write that failed, so that errno is that write's.
-fn tell(output: Output) {
+pub(crate) fn tell(output: Output) {
     match output {
         Output::Whole => {}
         Output::Failed => os::fail(b"dialspark: the listing cannot be written"),
@@ -84,28 +88,42 @@ fn list(capture: i32) {
     tell(left);
 }
 
-fn list_file(name: &[u8]) {
-    let capture = os::open_read(name);
-    if capture < 0 {
+fn list_wanted(wanted: Wanted, file: i32) {
+    match wanted {
+        Wanted::Line => list(file),
+        Wanted::Telegrams => logs::list(Rows::Telegrams, file),
+        Wanted::Blocks => logs::list(Rows::Blocks, file),
+    }
+}
+
+fn list_file(wanted: Wanted, name: &[u8]) {
+    let file = os::open_read(name);
+    if file < 0 {
         io::write_all(STDERR_FILENO, b"dialspark: ");
         os::fail(name);
         words::usage(STDERR_FILENO);
         return;
     }
-    list(capture);
-    libc::close(capture);
+    list_wanted(wanted, file);
+    libc::close(file);
 }
 
-fn list_named(place: usize) {
+fn list_named(wanted: Wanted, place: usize) {
     let mut name = io::buffer();
     let length = os::arg(place, &mut name);
-    list_file(&name[..length]);
+    list_file(wanted, &name[..length]);
+}
+
+fn list_source(wanted: Wanted, source: Source) {
+    match source {
+        Source::Input => list_wanted(wanted, STDIN_FILENO),
+        Source::File(place) => list_named(wanted, place),
+    }
 }
 
 fn main() {
     match words::read() {
-        Asked::Listing => list(STDIN_FILENO),
-        Asked::File(place) => list_named(place),
+        Asked::Listing(wanted, source) => list_source(wanted, source),
         Asked::Help => words::usage(STDOUT_FILENO),
         Asked::Nothing => words::usage(STDERR_FILENO),
     }

@@ -1,16 +1,28 @@
-// The words of the command line. One that begins with `--` is an option; one other may name a capture's file.
+// The words of the command line. One that begins with `--` is an option; one other may name a file.
 use libc::STDERR_FILENO;
 
-// What the words ask for: to list standard input, or the file named by the word at a place, or help, or nothing that is there to ask.
-pub enum Asked {
-    Listing,
+// What is to be listed: a captured line, the telegrams of a log, or its blocks.
+pub enum Wanted {
+    Line,
+    Telegrams,
+    Blocks,
+}
+
+// Where it stands: on standard input, or in the file named by the word at a place.
+pub enum Source {
+    Input,
     File(usize),
+}
+
+// What the words ask for: a listing, or help, or nothing that is there to ask.
+pub enum Asked {
+    Listing(Wanted, Source),
     Help,
     Nothing,
 }
 
 pub(crate) fn usage(to: i32) {
-    io::write_all(to, b"usage: dialspark [--help] [CAPTURE]\n");
+    io::write_all(to, b"usage: dialspark [--help] [--verify | --log] [FILE]\n");
 }
 
 fn is_same(word: &[u8], other: &[u8]) -> bool {
@@ -38,32 +50,68 @@ fn is_option(word: &[u8]) -> bool {
     word[1] == b'-'
 }
 
+fn no_such_option(word: &[u8]) -> Asked {
+    io::write_all(STDERR_FILENO, b"dialspark: no such option: ");
+    io::write_all(STDERR_FILENO, word);
+    io::write_all(STDERR_FILENO, b"\n");
+    Asked::Nothing
+}
+
+// A listing with an option that says what is wanted; one such option is enough.
+fn with_wanted(so_far: Asked, wanted: Wanted) -> Asked {
+    match so_far {
+        Asked::Listing(before, source) => match before {
+            Wanted::Line => Asked::Listing(wanted, source),
+            Wanted::Telegrams => one_listing(),
+            Wanted::Blocks => one_listing(),
+        },
+        Asked::Help => Asked::Help,
+        Asked::Nothing => Asked::Nothing,
+    }
+}
+
+fn one_listing() -> Asked {
+    io::write_all(
+        STDERR_FILENO,
+        b"dialspark: one of --verify and --log, once\n",
+    );
+    Asked::Nothing
+}
+
+fn with_file(so_far: Asked, place: usize) -> Asked {
+    match so_far {
+        Asked::Listing(wanted, source) => match source {
+            Source::Input => Asked::Listing(wanted, Source::File(place)),
+            Source::File(_) => {
+                io::write_all(STDERR_FILENO, b"dialspark: one file at a time\n");
+                Asked::Nothing
+            }
+        },
+        Asked::Help => Asked::Help,
+        Asked::Nothing => Asked::Nothing,
+    }
+}
+
 // What the words so far ask for, with one word more. A word that does not fit is told.
 fn with_word(so_far: Asked, word: &[u8], place: usize) -> Asked {
     if is_same(word, b"--help") {
         return Asked::Help;
     }
+    if is_same(word, b"--verify") {
+        return with_wanted(so_far, Wanted::Blocks);
+    }
+    if is_same(word, b"--log") {
+        return with_wanted(so_far, Wanted::Telegrams);
+    }
     if is_option(word) {
-        io::write_all(STDERR_FILENO, b"dialspark: no such option: ");
-        io::write_all(STDERR_FILENO, word);
-        io::write_all(STDERR_FILENO, b"\n");
-        return Asked::Nothing;
+        return no_such_option(word);
     }
-    match so_far {
-        Asked::Listing => Asked::File(place),
-        Asked::Help => Asked::Help,
-        Asked::File(_) => {
-            io::write_all(STDERR_FILENO, b"dialspark: one capture at a time\n");
-            Asked::Nothing
-        }
-        Asked::Nothing => Asked::Nothing,
-    }
+    with_file(so_far, place)
 }
 
 fn is_settled(asked: Asked) -> bool {
     match asked {
-        Asked::Listing => false,
-        Asked::File(_) => false,
+        Asked::Listing(_, _) => false,
         Asked::Help => true,
         Asked::Nothing => true,
     }
@@ -82,7 +130,7 @@ fn with_place(so_far: Asked, place: usize) -> Asked {
 // The first word is the program's own name.
 pub(crate) fn read() -> Asked {
     let count = os::arg_count();
-    let mut found = Asked::Listing;
+    let mut found = Asked::Listing(Wanted::Line, Source::Input);
     let mut place: usize = 1;
     while place < count {
         found = with_place(found, place);

@@ -6,6 +6,8 @@ use Prim.Native.Nat.{ℕ}
 use Rattle.line.specs.declared.Reader.{Reader}
 use Rattle.line.specs.Line.{readerOf, lineOf, wellFormed}
 use Rattle.line.specs.Cuts.{lineAfter}
+use Rattle.listing.specs.declared.RowAnswer.{RowAnswer}
+use Rattle.listing.specs.declared.RowAnswer.the-variants as row
 use Rattle.printing.specs.declared.Output.{Output}
 use Rattle.printing.specs.declared.Output.the-variants as output
 use Rattle.printing.specs.declared.Printer.{Printer}
@@ -30,3 +32,13 @@ abbrev pub printed : Output → Reader → Reader → Output → Printer
 printed output.Whole reader next told = cond (wellFormed reader) (handed reader next told) (record { reader = reader; output = output.Refused 15 })
 printed output.Failed reader next told = record { reader = reader; output = output.Failed }
 printed (output.Refused number) reader next told = record { reader = reader; output = output.Refused number }
+
+-- a row that was laid goes out or does not; one that was refused is told with its number
+abbrev pub sentOut : Output → Output
+sentOut output.Whole = output.Whole
+sentOut output.Failed = output.Failed
+sentOut (output.Refused number) = output.Failed
+
+abbrev pub printedRow : RowAnswer → Output → Output
+printedRow (row.Written size) told = sentOut told
+printedRow (row.Refused number) told = output.Refused number

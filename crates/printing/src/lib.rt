@@ -10,7 +10,7 @@ ghost use Prim.Native.Nat.{min};
 ghost use Rattle.line.specs.Line.{freshReader, endReader};
 ghost use Rattle.pages.specs.Pages.{pageOf};
 ghost use Rattle.printing.specs.declared.Output.the-variants.{Whole};
-ghost use Rattle.printing.specs.Printing.{pageRoom, afterPiece, printed};
+ghost use Rattle.printing.specs.Printing.{pageRoom, afterPiece, printed, printedRow};
 
 // How the output stands. Once it is not whole, nothing more is written.
 pub enum Output {
@@ -52,7 +52,10 @@ fn print(out: &[u8], count: usize) -> bool {
     io::write_all(STDOUT_FILENO, &out[0..end])
 }
 
-fn print_row(made: RowAnswer, out: &[u8]) -> Output {
+// Writes a row that was made at the front of a buffer.
+pub fn print_row(made: RowAnswer, out: &[u8]) -> Output
+    ensures { λ r. ⌜ r ≡ printedRow made r ⌝ }
+{
     match made {
         RowAnswer::Written(count) => {
             if print(out, count) {

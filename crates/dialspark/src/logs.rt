@@ -1,0 +1,198 @@
+// A log's file, block by block: its telegrams listed, or its blocks verified.
+use super::is_whole;
+use super::tell;
+use listing::LONGEST_LOG_ROW;
+use listing::log_rows;
+use log::BLOCK_SIZE;
+use logpages::PAGE;
+use printing::Output;
+use printing::print_row;
+use refusals::NOT_WHOLE_BLOCKS;
+
+// What is listed: a row for each telegram of the good blocks, or a row for each block.
+pub enum Rows {
+    Telegrams,
+    Blocks,
+}
+
+// The next block of the file: all its bytes, or so many before the file ended, or none as a read failed.
+enum Filled {
+    Whole,
+    Ended(usize),
+    Failed,
+}
+
+// How many blocks were listed and how many of them are bad, how the output stands, and whether there may be more to read.
+struct Progress {
+    blocks: u64,
+    bad: u64,
+    output: Output,
+    more: bool,
+}
+
+// A read that a signal broke off is made again; any other failure is told.
+fn is_failure(got: isize) -> bool {
+    if got >= 0 {
+        return false;
+    }
+    if os::errno() == libc::EINTR {
+        return false;
+    }
+    os::fail(b"dialspark: the log cannot be read");
+    true
+}
+
+// As many reads as it takes, so that a log may also come through a pipe. The turns are counted down from a number that no run
+// uses up.
+fn fill(file: i32, block: &mut [u8]) -> Filled {
+    let length = block.len();
+    let mut done: usize = 0;
+    let mut turns = u64::MAX;
+    while turns > 0 && done < length {
+        let got = libc::read(file, &mut block[done..]);
+        if is_failure(got) {
+            return Filled::Failed;
+        }
+        if got == 0 {
+            return Filled::Ended(done);
+        }
+        done += io::count(got, &block[done..]);
+        turns -= 1;
+    }
+    Filled::Whole
+}
+
+fn print_header(rows: Rows) -> Output {
+    let mut out = [0u8; LONGEST_LOG_ROW];
+    let made = match rows {
+        Rows::Telegrams => log_rows::header(&mut out),
+        Rows::Blocks => log_rows::verify_header(&mut out),
+    };
+    print_row(made, &out)
+}
+
+fn print_telegrams(so_far: Progress, block: &[u8]) -> Progress {
+    let mut out = [0u8; PAGE];
+    let made = logpages::rows_of(so_far.blocks, block, &mut out);
+    let output = print_row(made, &out);
+    Progress {
+        blocks: std::num::wrapping_add_u64(so_far.blocks, 1),
+        bad: so_far.bad,
+        output: output,
+        more: is_whole(output),
+    }
+}
+
+fn bad_with(bad: u64, good: bool) -> u64 {
+    if good {
+        return bad;
+    }
+    std::num::wrapping_add_u64(bad, 1)
+}
+
+fn print_verified(so_far: Progress, block: &[u8]) -> Progress {
+    let mut out = [0u8; LONGEST_LOG_ROW];
+    let verified = logpages::verified_row(so_far.blocks, block, &mut out);
+    let made = verified.row;
+    let output = print_row(made, &out);
+    Progress {
+        blocks: std::num::wrapping_add_u64(so_far.blocks, 1),
+        bad: bad_with(so_far.bad, verified.good),
+        output: output,
+        more: is_whole(output),
+    }
+}
+
+fn print_block(rows: Rows, so_far: Progress, block: &[u8]) -> Progress {
+    match rows {
+        Rows::Telegrams => print_telegrams(so_far, block),
+        Rows::Blocks => print_verified(so_far, block),
+    }
+}
+
+// Bytes behind the last whole block: 19.
+fn print_tail(rows: Rows, number: u64) -> Output {
+    let mut out = [0u8; LONGEST_LOG_ROW];
+    let made = match rows {
+        Rows::Telegrams => log_rows::block_row(number, NOT_WHOLE_BLOCKS, &mut out),
+        Rows::Blocks => {
+            log_rows::tail_row(
+                number,
+                logpages::offset_of(number),
+                NOT_WHOLE_BLOCKS,
+                &mut out,
+            )
+        }
+    };
+    print_row(made, &out)
+}
+
+fn print_bad(bad: u64) -> Output {
+    let mut out = [0u8; LONGEST_LOG_ROW];
+    let made = log_rows::bad_line(bad, &mut out);
+    print_row(made, &out)
+}
+
+// The last row of a file's blocks: how many are bad. The telegrams have no such row.
+fn print_end(rows: Rows, so_far: Progress) -> Output {
+    match rows {
+        Rows::Telegrams => Output::Whole,
+        Rows::Blocks => print_bad(so_far.bad),
+    }
+}
+
+// What stands behind the last whole block, and the last row.
+fn print_rest(rows: Rows, so_far: Progress, rest: usize) -> Output {
+    if rest == 0 {
+        return print_end(rows, so_far);
+    }
+    match print_tail(rows, so_far.blocks) {
+        Output::Whole => print_end(rows, so_far),
+        Output::Failed => Output::Failed,
+        Output::Refused(number) => Output::Refused(number),
+    }
+}
+
+// Nothing more is read.
+fn ended(so_far: Progress, output: Output) -> Progress {
+    Progress {
+        blocks: so_far.blocks,
+        bad: so_far.bad,
+        output: output,
+        more: false,
+    }
+}
+
+// One block more, or the end. Where a read failed the listing has no last row.
+fn next(rows: Rows, file: i32, so_far: Progress) -> Progress {
+    let mut block = [0u8; BLOCK_SIZE];
+    match fill(file, &mut block) {
+        Filled::Whole => print_block(rows, so_far, &block),
+        Filled::Ended(rest) => ended(so_far, print_rest(rows, so_far, rest)),
+        Filled::Failed => {
+            let output = so_far.output;
+            ended(so_far, output)
+        }
+    }
+}
+
+fn start(rows: Rows) -> Progress {
+    let output = print_header(rows);
+    Progress {
+        blocks: 0,
+        bad: 0,
+        output: output,
+        more: is_whole(output),
+    }
+}
+
+pub(crate) fn list(rows: Rows, file: i32) {
+    let mut so_far = start(rows);
+    let mut turns = u64::MAX;
+    while turns > 0 && so_far.more {
+        so_far = next(rows, file, so_far);
+        turns -= 1;
+    }
+    let left = so_far.output;
+    tell(left);
+}

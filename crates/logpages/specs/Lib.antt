@@ -1,0 +1,2 @@
+pub mod LogPages
+pub mod Whole
