@@ -2,6 +2,7 @@
 use super::is_whole;
 use super::tell;
 use listing::LONGEST_LOG_ROW;
+use listing::RowAnswer;
 use listing::log_rows;
 use log::BLOCK_SIZE;
 use logpages::PAGE;
@@ -62,12 +63,16 @@ fn fill(file: i32, block: &mut [u8]) -> Filled {
     Filled::Whole
 }
 
+fn lay_header(rows: Rows, out: &mut [u8]) -> RowAnswer {
+    match rows {
+        Rows::Telegrams => log_rows::header(out),
+        Rows::Blocks => log_rows::verify_header(out),
+    }
+}
+
 fn print_header(rows: Rows) -> Output {
     let mut out = [0u8; LONGEST_LOG_ROW];
-    let made = match rows {
-        Rows::Telegrams => log_rows::header(&mut out),
-        Rows::Blocks => log_rows::verify_header(&mut out),
-    };
+    let made = lay_header(rows, &mut out);
     print_row(made, &out)
 }
 
@@ -111,19 +116,18 @@ fn print_block(rows: Rows, so_far: Progress, block: &[u8]) -> Progress {
 }
 
 // Bytes behind the last whole block: 19.
+fn lay_tail(rows: Rows, number: u64, out: &mut [u8]) -> RowAnswer {
+    match rows {
+        Rows::Telegrams => log_rows::block_row(number, NOT_WHOLE_BLOCKS, out),
+        Rows::Blocks => {
+            log_rows::tail_row(number, logpages::offset_of(number), NOT_WHOLE_BLOCKS, out)
+        }
+    }
+}
+
 fn print_tail(rows: Rows, number: u64) -> Output {
     let mut out = [0u8; LONGEST_LOG_ROW];
-    let made = match rows {
-        Rows::Telegrams => log_rows::block_row(number, NOT_WHOLE_BLOCKS, &mut out),
-        Rows::Blocks => {
-            log_rows::tail_row(
-                number,
-                logpages::offset_of(number),
-                NOT_WHOLE_BLOCKS,
-                &mut out,
-            )
-        }
-    };
+    let made = lay_tail(rows, number, &mut out);
     print_row(made, &out)
 }
 

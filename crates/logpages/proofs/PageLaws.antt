@@ -5,6 +5,7 @@ use mathlib.Core.List.{List, [], _∷_, _++_, append-assoc, append-nil}
 use Prim.Native.Nat.{ℕ, suc, _+_, _*_, _-_, _^_, _≤_, _<_}
 use native.Mathlib.Numerals.{add-one}
 use native.Mathlib.Omega.{arith}
+use lib.Dec.{leb}
 use lib.ListN.{length, take, drop, length-append, length-drop}
 use lib.Seq.{drop-drop, length-take-le, take-at}
 use borrow.Rule.Slice.PartMut.{putMid}
@@ -39,7 +40,7 @@ all-left block = let all : countIn block - 0 ≡ countIn block = omega arith in 
 
 good-reads : (telegrams : List (List ℕ)) → isKept telegrams ≡ true → allReadWell telegrams ≡ true
 unfolding isKept
-good-reads telegrams kept = both _ (allReadWell telegrams) kept .1
+good-reads telegrams kept = both (leb (length telegrams) slots) (allReadWell telegrams) kept .1
 
 pub none-yet : (number : ℕ) (block page : List ℕ) → isGood block ≡ true → length page ≡ pageRoom → Filling number block page (countIn block) 0 0
 none-yet number block page good room =
@@ -52,6 +53,12 @@ none-yet number block page good room =
       reads = ap allReadWell (all-left block) ∙ good-reads (telegramsOf block) kept;
       so-far = ap (rowsFrom number 0) (all-left block);
     }
+
+-- a slot, cut out of its block
+pub slot-at : (block : List ℕ) (at : ℕ)
+    → take (slotSize * at + slotSize - slotSize * at) (drop (slotSize * at) block) ≡ take slotSize (drop (slotSize * at) block)
+slot-at block at =
+    let size : slotSize * at + slotSize - slotSize * at ≡ slotSize = omega arith in ap (λ n. take n (drop (slotSize * at) block)) size
 
 module _ (number : ℕ) (block page : List ℕ) (count at used : ℕ) (filling : Filling number block page count at used) where
   pub inside-page : used ≤ length page

@@ -1,4 +1,4 @@
--- Laws of a telegram's row: a telegram that reads well has one, and none is longer than the longest. Assumes nothing.
+-- Laws of the rows of a telegram and of a block, and of the first bytes of a page. Assumes nothing.
 use mathlib.Core.Path.{_≡_, refl, ap, ap₂, sym, _∙_}
 use mathlib.Core.Bool.{Bool, true, false}
 use mathlib.Core.List.{List, _++_}
@@ -15,10 +15,11 @@ use Rattle.laying.proofs.LayingLaws.{laid-short, laid-fits}
 use Rattle.record.specs.declared.Record.{Record}
 use Rattle.telegram.specs.Reading.{readOf}
 use Rattle.telegram.proofs.BackAndForth.{accepted-is-written}
-use Rattle.log.specs.Good.{telegramIn, isDone, readsWell}
-use Rattle.listing.specs.LogRows.{slotRow, telegramRow, longestLogRow}
+use Rattle.log.specs.Good.{countIn, telegramIn, telegramsOf, isDone, readsWell, isGood}
+use Rattle.log.proofs.BlockLaws.{count-telegrams}
+use Rattle.listing.specs.LogRows.{slotRow, telegramRow, blockRow, goodRow, badRow, longestLogRow}
 use Rattle.listing.proofs.LogRowLaws.{slot-short}
-use Rattle.logpages.specs.LogPages.{rowOf}
+use Rattle.logpages.specs.LogPages.{rowOf, rowsFrom, blockRows, offsetOf, verifiedRow}
 
 -- the telegram in a slot: behind the length byte, and not past the slot's end
 pub slot-part : (slot : List ℕ) (end : ℕ) → 0 < length slot → end ≡ min (getD slot 0 0 + 1) (length slot) → take (end - 1) (drop 1 slot) ≡ telegramIn slot
@@ -72,3 +73,21 @@ module _ (page out : List ℕ) (used : ℕ) (inside : used ≤ length page) wher
   first-laid last at fits end e =
       laid-fits (take used page) out (omega (arith, size))
       ∙ ap₂ (λ n l. (done n, l)) size (ap (λ n. take used page ++ drop n out) size ∙ sym (e ∙ ap (λ n. take n page ++ drop n out) end))
+
+-- the rows of a block, good or bad
+module _ (number : ℕ) (block : List ℕ) where
+  pub rows-good : isGood block ≡ true → blockRows number block ≡ rowsFrom number 0 (telegramsOf block)
+  unfolding blockRows
+  rows-good good = rw good
+
+  pub rows-bad : isGood block ≡ false → blockRows number block ≡ blockRow number 20
+  unfolding blockRows
+  rows-bad bad = rw bad
+
+  pub verified-good : isGood block ≡ true → verifiedRow number block ≡ goodRow number (offsetOf number) (countIn block)
+  unfolding verifiedRow
+  verified-good good = rw (good, count-telegrams block)
+
+  pub verified-bad : isGood block ≡ false → verifiedRow number block ≡ badRow number (offsetOf number)
+  unfolding verifiedRow
+  verified-bad bad = rw bad

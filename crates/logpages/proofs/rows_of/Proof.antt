@@ -1,52 +1,46 @@
+-- `logpages::rows_of` meets its contract.
+use mathlib.Core.Path.{refl, ap, sym, _∙_}
+use borrow.Author.Tests.{not-true, not-false}
 use borrow.Author.Needs.{needs}
+use Rattle.refusals.specs.Refusals.{done}
+use Rattle.laying.specs.Laying.{laid}
+use Rattle.logpages.proofs.RowLaws.{rows-good, rows-bad}
 use Rattle.logpages.proofs.rows_of.Statement.{statement}
 use Rattle.logpages.proofs.rows_of.Tie as tie
-use Rattle.logpages.proofs.rows_of.Reads as reads
-use Rattle.logpages.proofs.rows_of.Lts as lts
-use Rattle.listing.proofs.log_rows.block_row.Reads as block-row-reads
-use Rattle.log.proofs.block.is_good.Reads as is-good-reads
-use Rattle.logpages.proofs.fill.Reads as fill-reads
-use Rattle.logpages.proofs.lay.Reads as lay-reads
 
--- src/lib.rt:114:9
 is-good-requires : tie.Need-is-good-requires
 is-good-requires c κs = search needs
 
--- src/lib.rt:115:9
 block-row-requires : tie.Need-block-row-requires
 block-row-requires c κs = search needs
 
--- src/lib.rt:115:9
 same-length : tie.Need-same-length
 same-length c = search needs
 
--- src/lib.rt:115:9
 returns : tie.Need-returns
-returns c = ?
+returns c =
+    let a = c .before .before .before .before .before .before .before .before .args in
+    ap (λ rows. laid (done rows) (a .out .now)) (rows-bad (a .number) (a .block .now) (sym (c .before .before .before .before .before .is-good .ensures) ∙ not-true _ (c .before .before .before .before .if1 .taken))) ∙ c .before .before .block-row .ensures
 
--- src/lib.rt:118:36
 slice-aggregate-fill : tie.Need-slice-aggregate-fill
 slice-aggregate-fill c = search needs
 
--- src/lib.rt:118:9
 fill-requires : tie.Need-fill-requires
-fill-requires c κs = ?
+fill-requires c κs = (sym (c .before .before .is-good .ensures) ∙ not-false _ (c .before .if1 .left), refl)
 
--- src/lib.rt:119:9
 slice-aggregate-lay : tie.Need-slice-aggregate-lay
 slice-aggregate-lay c = search needs
 
--- src/lib.rt:119:5
 lay-requires : tie.Need-lay-requires
 lay-requires c κs = search needs
 
--- src/lib.rt:111:1
 same-length-2 : tie.Need-same-length-2
 same-length-2 c = search needs
 
--- src/lib.rt:111:1
 returns-2 : tie.Need-returns-2
-returns-2 c = ?
+returns-2 c =
+    let a = c .before .before .before .before .before .before .before .before .before .before .before .before .args in
+    ap (λ rows. laid (done rows) (a .out .now)) (rows-good (a .number) (a .block .now) (sym (c .before .before .before .before .before .before .before .before .before .is-good .ensures) ∙ not-false _ (c .before .before .before .before .before .before .before .before .if1 .left)) ∙ sym (c .before .before .before .before .before .before .fill .ensures .1)) ∙ c .before .before .lay .ensures
 
 pub rows-of-spec : {M : Type 1} → statement M
 rows-of-spec =

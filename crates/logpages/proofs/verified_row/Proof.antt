@@ -1,48 +1,49 @@
+-- `logpages::verified_row` meets its contract.
+use mathlib.Core.Path.{ap, sym, _∙_}
+use native.Mathlib.Omega.{arith}
+use borrow.Author.Tests.{not-true, not-false}
 use borrow.Author.Needs.{needs}
+use lib.ListN.{getD}
+use Rattle.refusals.specs.Refusals.{done}
+use Rattle.laying.specs.Laying.{laid}
+use Rattle.log.proofs.BlockLaws.{good-length}
+use Rattle.listing.specs.LogRows.{goodRow, badRow}
+use Rattle.logpages.proofs.RowLaws.{verified-good, verified-bad}
 use Rattle.logpages.proofs.verified_row.Statement.{statement}
 use Rattle.logpages.proofs.verified_row.Tie as tie
-use Rattle.logpages.proofs.verified_row.Reads as reads
-use Rattle.logpages.proofs.verified_row.Lts as lts
-use Rattle.listing.proofs.log_rows.bad_row.Reads as bad-row-reads
-use Rattle.listing.proofs.log_rows.good_row.Reads as good-row-reads
-use Rattle.log.proofs.block.is_good.Reads as is-good-reads
-use Rattle.logpages.proofs.offset_of.Reads as offset-of-reads
 
--- src/lib.rt:133:9
 offset-of-requires : tie.Need-offset-of-requires
 offset-of-requires c κs = search needs
 
--- src/lib.rt:134:9
 is-good-requires : tie.Need-is-good-requires
 is-good-requires c κs = search needs
 
--- src/lib.rt:137:18
 bad-row-requires : tie.Need-bad-row-requires
 bad-row-requires c κs = search needs
 
--- src/lib.rt:135:9
 same-length : tie.Need-same-length
 same-length c = search needs
 
--- src/lib.rt:135:9
 returns : tie.Need-returns
-returns c = ?
+returns c =
+    let a = c .before .before .before .before .before .before .before .before .before .args in
+    let bad = sym (c .before .before .before .before .before .is-good .ensures) ∙ not-true _ (c .before .before .before .before .if1 .taken) in
+    (sym bad, ap (λ row. laid (done row) (a .out .now)) (verified-bad (a .number) (a .block .now) bad ∙ ap (badRow (a .number)) (sym (c .before .before .before .before .before .before .offset-of .ensures))) ∙ c .before .before .bad-row .ensures)
 
--- src/lib.rt:142:39
 shared-slice-read-good-row : tie.Need-shared-slice-read-good-row
-shared-slice-read-good-row c = ?
+shared-slice-read-good-row c = omega (arith, good-length (c .before .before .before .before .before .before .args .block .now) (sym (c .before .before .is-good .ensures) ∙ not-false _ (c .before .if1 .left)))
 
--- src/lib.rt:142:14
 good-row-requires : tie.Need-good-row-requires
 good-row-requires c κs = search needs
 
--- src/lib.rt:130:1
 same-length-2 : tie.Need-same-length-2
 same-length-2 c = search needs
 
--- src/lib.rt:130:1
 returns-2 : tie.Need-returns-2
-returns-2 c = ?
+returns-2 c =
+    let a = c .before .before .before .before .before .before .before .before .before .before .args in
+    let good = sym (c .before .before .before .before .before .before .is-good .ensures) ∙ not-false _ (c .before .before .before .before .before .if1 .left) in
+    (sym good, ap (λ row. laid (done row) (a .out .now)) (verified-good (a .number) (a .block .now) good ∙ ap (λ o. goodRow (a .number) o (getD (a .block .now) 480 0)) (sym (c .before .before .before .before .before .before .before .offset-of .ensures))) ∙ c .before .before .good-row .ensures)
 
 pub verified-row-spec : {M : Type 1} → statement M
 verified-row-spec =
