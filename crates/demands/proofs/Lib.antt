@@ -5,11 +5,14 @@ pub mod Demand1Holds
 pub mod Demand1OfTheLine
 pub mod Demand1OfTheListing
 pub mod Demand1OfReplies
+pub mod Demand1OfTheLog
 pub mod Demand2Holds
 pub mod Demand2OfReplies
 pub mod Demand3Holds
 pub mod BoundaryHolds
 pub mod SecondSixtyHolds
+pub mod TheLogHolds
 pub mod ShutOut
 pub mod ShutOutOfReplies
+pub mod ShutOutOfTheLog
 pub mod PrintedTablesHold

@@ -1,13 +1,13 @@
 -- Laws of rules and of the numbers they give: rule by rule, and one thing after another. Assumes nothing.
-use mathlib.Core.Path.{_≡_, refl, ap, sym, _∙_, subst⁻¹}
-use mathlib.Core.Bool.{Bool, true, false, _&&_}
+use mathlib.Core.Path.{_≡_, refl, ap, sym, _∙_, subst, subst⁻¹}
+use mathlib.Core.Bool.{Bool, true, false, _&&_, _||_, or-true, or-assoc}
 use mathlib.Core.List.{List, [], _∷_, _++_}
-use Prim.Native.Nat.{ℕ, zero, suc, _≤_, min}
+use Prim.Native.Nat.{ℕ, zero, suc, _≤_}
 use native.Mathlib.Omega.{arith}
-use lib.Dec.{leb}
-use borrow.Author.Tests.{leb-true, leb-false}
+use lib.Dec.{leb, eqb}
+use borrow.Author.Tests.{leb-true}
 use Rattle.refusals.specs.Refusals.{_when_, _else_, lower, Outcome, done, refused, unless, after}
-use Rattle.refusals.proofs.Laws.{both, else-assoc}
+use Rattle.refusals.proofs.Laws.{both, else-assoc, was-done}
 use Rattle.demands.specs.Numbers.{Rule, _givenWhen_, lowest, firstOf, allFrom, inOrder, TheFirstIsTheLowest, _refusedBy_, _byFirst_, among, _doneOr_, _noneOr_}
 
 pub else-nothing : (n : ℕ) → (n else 0) ≡ n
@@ -60,16 +60,41 @@ unless-by n value rules e = go n ∙ ap (λ k. unless k tt) e
     go zero = refl
     go (suc k) = refl
 
--- one thing after another: the rules of the second stand behind the number of the first
+-- one thing after another: the rules of the second stand behind those of the first
+pub after-by : {A B : Type 0} (first : Outcome A) (next : A → Outcome B) (rules later : List Rule) → first byFirst rules
+    → ((value : A) → first ≡ done value → next value byFirst later) → after first next byFirst rules ++ later
+unfolding unless
+after-by {A} first next rules later by on =
+    go first (firstOf rules) refl by ∙ ap (λ k. unless k tt) (sym (first-of-both rules later))
+  where
+    go : (o : Outcome A) (k : ℕ) → first ≡ o → after o (λ v. done tt) ≡ unless {A = Unit {0}} k tt
+        → after (after o next) (λ v. done tt) ≡ unless {A = Unit {0}} (k else firstOf later) tt
+    go (done value) zero is e = on value is
+    go (done value) (suc k) is e = let z : _≡_ {A = ℕ} 0 1 = cc in absurd (omega arith)
+    go (refused n) zero is e = let z : _≡_ {A = ℕ} 0 1 = cc in absurd (omega arith)
+    go (refused n) (suc k) is e = e
+
+-- the same behind a number
 pub then-by : {A B : Type 0} (n : ℕ) (value : A) (next : A → Outcome B) (rules later : List Rule) → n ≡ firstOf rules
     → next value byFirst later → after (unless n value) next byFirst rules ++ later
-unfolding unless
 then-by n value next rules later e on =
-    go n on ∙ ap (λ k. unless k tt) (ap (λ k. k else firstOf later) e ∙ sym (first-of-both rules later))
+    after-by (unless n value) next rules later (unless-by n value rules e)
+    (λ v is. subst (λ w. next w byFirst later) (was-done n value v is .1) on)
+
+-- and the numbers are those of either
+among-both : (numbers more : List ℕ) (n : ℕ) → among (numbers ++ more) n ≡ (among numbers n || among more n)
+among-both [] more n = refl
+among-both (first ∷ numbers) more n =
+    ap (λ t. eqb n first || t) (among-both numbers more n) ∙ sym (or-assoc (eqb n first) (among numbers n) (among more n))
+
+pub after-or : {A B : Type 0} (first : Outcome A) (next : A → Outcome B) (numbers more : List ℕ) → first doneOr numbers
+    → ((value : A) → next value doneOr more) → after first next doneOr numbers ++ more
+after-or {A} {B} (done value) next numbers more by on = go (next value) (on value)
   where
-    go : (k : ℕ) → next value byFirst later → after (after (unless k value) next) (λ v. done tt) ≡ unless {A = Unit {0}} (k else firstOf later) tt
-    go zero h = h
-    go (suc k) h = refl
+    go : (o : Outcome B) → o doneOr more → o doneOr numbers ++ more
+    go (done v) e = tt
+    go (refused n) e = rw (among-both numbers more n, e) (or-true (among numbers n))
+after-or (refused n) next numbers more by on = rw (among-both numbers more n, by)
 
 -- rules that give none but these numbers
 abbrev pub allAmong : List ℕ → List Rule → Bool
@@ -81,24 +106,19 @@ module _ (numbers : List ℕ) where
   number-or-none zero e = tt
   number-or-none (suc n) e = e
 
-  one-of-two : (n later : ℕ) → n noneOr numbers → later noneOr numbers → lower n later noneOr numbers
+  one-of-two : (n later : ℕ) → n noneOr numbers → later noneOr numbers → (n else later) noneOr numbers
   one-of-two zero later a b = b
-  one-of-two (suc n) zero a b = a
-  one-of-two (suc n) (suc later) a b = go (leb n later) refl
-    where
-      go : (t : Bool) → leb n later ≡ t → among numbers (suc (min n later)) ≡ true
-      go true e = let le = leb-true n later e in let is : min n later ≡ n = omega arith in ap (λ k. among numbers (suc k)) is ∙ a
-      go false e = let gt = leb-false n later e in let is : min n later ≡ later = omega arith in ap (λ k. among numbers (suc k)) is ∙ b
+  one-of-two (suc n) later a b = a
 
   by-rule : (n : ℕ) (holds : Bool) → among numbers n ≡ true → n when holds noneOr numbers
   by-rule n true e = number-or-none n e
   by-rule n false e = tt
 
-  lowest-among : (rules : List Rule) → allAmong numbers rules ≡ true → lowest rules noneOr numbers
-  lowest-among [] e = tt
-  lowest-among (n givenWhen holds ∷ rules) e =
+  first-among : (rules : List Rule) → allAmong numbers rules ≡ true → firstOf rules noneOr numbers
+  first-among [] e = tt
+  first-among (n givenWhen holds ∷ rules) e =
       let parts = both (among numbers n) (allAmong numbers rules) e in
-      one-of-two (n when holds) (lowest rules) (by-rule n holds (parts .0)) (lowest-among rules (parts .1))
+      one-of-two (n when holds) (firstOf rules) (by-rule n holds (parts .0)) (first-among rules (parts .1))
 
   told-apart : {A : Type 0} (outcome : Outcome A) → after {B = Unit {0}} outcome (λ v. done tt) doneOr numbers → outcome doneOr numbers
   told-apart (done value) e = tt
@@ -109,10 +129,10 @@ module _ (numbers : List ℕ) where
   unless-among zero e = tt
   unless-among (suc n) e = e
 
-  done-or : {A : Type 0} (outcome : Outcome A) (rules : List Rule) → outcome refusedBy rules → allAmong numbers rules ≡ true
+  pub done-or : {A : Type 0} (outcome : Outcome A) (rules : List Rule) → outcome byFirst rules → allAmong numbers rules ≡ true
       → outcome doneOr numbers
   done-or outcome rules by all =
-      told-apart outcome (subst⁻¹ (λ o. o doneOr numbers) by (unless-among (lowest rules) (lowest-among rules all)))
+      told-apart outcome (subst⁻¹ (λ o. o doneOr numbers) by (unless-among (firstOf rules) (first-among rules all)))
 
   -- one test of a list of rules: they stand in the order of their numbers, and the numbers are these
   abbrev pub tested : List Rule → Bool
@@ -122,11 +142,9 @@ module _ (numbers : List ℕ) where
       → (outcome refusedBy rules) × (outcome doneOr numbers)
   refuses outcome rules by test =
       let parts = both (inOrder rules) (allAmong numbers rules) test in
-      let lowest-by = by-lowest outcome rules (parts .0) by in
-      (lowest-by, done-or outcome rules lowest-by (parts .1))
+      (by-lowest outcome rules (parts .0) by, done-or outcome rules by (parts .1))
 
   pub gives : (n : ℕ) (rules : List Rule) → n ≡ firstOf rules → tested rules ≡ true → (n ≡ lowest rules) × (n noneOr numbers)
   gives n rules e test =
       let parts = both (inOrder rules) (allAmong numbers rules) test in
-      let is = e ∙ first-is-lowest rules (parts .0) in
-      (is, subst⁻¹ (λ k. k noneOr numbers) is (lowest-among rules (parts .1)))
+      (e ∙ first-is-lowest rules (parts .0), subst⁻¹ (λ k. k noneOr numbers) e (first-among rules (parts .1)))

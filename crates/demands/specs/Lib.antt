@@ -4,13 +4,17 @@ pub mod Rules
 pub mod Demand1
 pub mod Demand1OfTheListing
 pub mod Demand1OfReplies
+pub mod Demand1OfTheLog
 pub mod Demand2
 pub mod Demand2OfReplies
 pub mod Demand3
 pub mod Programs
 pub mod ProgramsOfReplies
+pub mod ProgramsOfTheLog
 pub mod Wrong
 pub mod WrongOfReplies
+pub mod WrongOfTheLog
 pub mod Boundary
 pub mod SecondSixty
+pub mod TheLog
 pub mod PrintedTables

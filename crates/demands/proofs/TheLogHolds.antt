@@ -1,0 +1,19 @@
+-- Document 02, c, holds. Assumes nothing.
+use Rattle.log.specs.Add.{addOf}
+use Rattle.log.proofs.BlockHolds.{a-good-block-is-made-by-its-telegrams, a-good-block-has-512-bytes, a-zeroed-block-is-good-and-empty}
+use Rattle.log.proofs.CheckLaws.{noticed, the-sum-fits}
+use Rattle.log.proofs.PlaceHolds.{verify-names-the-first-bad-block, no-blocks-are-good-and-full, an-add-goes-behind-the-last-used, that-place-is-taken, no-such-place-is-refused}
+use Rattle.log.proofs.AddHolds.{what-is-added-is-read-back, what-was-read-back-still-is, good-blocks-stay-good, no-other-byte-changes, a-refused-add-leaves-the-region, a-block-spoils-no-other}
+use Rattle.log.proofs.FillHolds.{adds-fill-zeroed-blocks-in-order}
+use Rattle.demands.specs.TheLog.{AnAddedTelegramIsReadBack, TheFirstBadBlockIsNamed, TheLogIsAsAskedFor}
+
+pub an-added-telegram-is-read-back : AnAddedTelegramIsReadBack
+unfolding addOf
+an-added-telegram-is-read-back = what-is-added-is-read-back
+
+pub the-first-bad-block-is-named : TheFirstBadBlockIsNamed
+the-first-bad-block-is-named region number whole is = verify-names-the-first-bad-block region .1 whole number is
+
+pub the-log : TheLogIsAsAskedFor
+the-log =
+    (a-good-block-is-made-by-its-telegrams, a-good-block-has-512-bytes, a-zeroed-block-is-good-and-empty, the-sum-fits, what-is-added-is-read-back, what-was-read-back-still-is, good-blocks-stay-good, no-other-byte-changes, verify-names-the-first-bad-block, an-add-goes-behind-the-last-used, that-place-is-taken, adds-fill-zeroed-blocks-in-order, noticed, a-block-spoils-no-other, no-such-place-is-refused, no-blocks-are-good-and-full, a-refused-add-leaves-the-region)

@@ -1,0 +1,64 @@
+-- Document 02, c, "A delivery log in blocks", sentence by sentence. When an add, a read back or a verify is refused stands in the rules
+-- of demand 1.
+use mathlib.Core.Bool.{true}
+use mathlib.Core.List.{List}
+use mathlib.Core.Path.{_≡_}
+use Prim.Native.Nat.{ℕ}
+use Rattle.refusals.specs.Refusals.{Outcome, done}
+use Rattle.log.specs.declared.Place.{Place}
+use Rattle.log.specs.declared.verify.Verified.{Verified}
+use Rattle.log.specs.declared.verify.Verified.the-variants.{Bad}
+use Rattle.log.specs.Region.{isWhole}
+use Rattle.log.specs.OfABlock.{AGoodBlockIsMadeByItsTelegrams, AGoodBlockHas512Bytes, AZeroedBlockIsGoodAndEmpty, AnyChangedByteIsNoticed, TheSumNeedsNoMoreThan32Bits}
+use Rattle.log.specs.OfTheLog.{FirstBad, VerifyNamesTheFirstBadBlock, NoBlocksAreGoodAndFull, AnAddGoesBehindTheLastUsed, ThatPlaceIsTaken, NoSuchPlaceIsRefused}
+use Rattle.log.specs.OfTheLog.{WhatIsAddedIsReadBack, WhatWasReadBackStillIs, GoodBlocksStayGood, NoOtherByteChanges, ARefusedAddLeavesTheRegion, ABlockSpoilsNoOther, AddsFillZeroedBlocksInOrder}
+use Rattle.demands.specs.ProgramsOfTheLog.{adds, readsBack, verifies}
+
+-- "we want add, read back of a telegram's bytes by block and slot": what one adds, the other reads back at the place answered
+abbrev pub ReadsBackWhatIsAdded : (List ℕ → List ℕ → Outcome Place × List ℕ) → (List ℕ → ℕ → ℕ → Outcome (List ℕ)) → Type 0
+ReadsBackWhatIsAdded add readBack =
+    (region telegram : List ℕ) (place : Place) → add region telegram .0 ≡ done place
+    → readBack (add region telegram .1) (place .block) (place .slot) ≡ done telegram
+
+abbrev pub AnAddedTelegramIsReadBack : Type 0
+AnAddedTelegramIsReadBack = ReadsBackWhatIsAdded adds readsBack
+
+-- "and verify, which names the first bad block"
+abbrev pub NamesTheFirstBad : (List ℕ → Verified) → Type 0
+NamesTheFirstBad verify =
+    (region : List ℕ) (number : ℕ) → isWhole region ≡ true → FirstBad region number → verify region ≡ Bad 20 number
+
+abbrev pub TheFirstBadBlockIsNamed : Type 0
+TheFirstBadBlockIsNamed = NamesTheFirstBad verifies
+
+abbrev pub TheLogIsAsAskedFor : Type 0
+TheLogIsAsAskedFor =
+    -- "keep accepted telegrams in blocks of 512 bytes": a good block is, byte for byte, the one that its telegrams make, so that "a
+    -- block that verifies but breaks another of these rules is bad too"
+    AGoodBlockIsMadeByItsTelegrams
+    × AGoodBlockHas512Bytes
+    -- "unused ones all zero": a zeroed block is one with none
+    × AZeroedBlockIsGoodAndEmpty
+    -- "the sum of each of the first 510 bytes times its place counted from 1": the program adds it up in 32 bits
+    × TheSumNeedsNoMoreThan32Bits
+    -- "we want add, read back of a telegram's bytes by block and slot (both from 0)"
+    × WhatIsAddedIsReadBack
+    × WhatWasReadBackStillIs
+    × GoodBlocksStayGood
+    × NoOtherByteChanges
+    -- "and verify, which names the first bad block, over a lent region of whole blocks"
+    × VerifyNamesTheFirstBadBlock
+    -- "an add goes to the first free slot of a good block behind the last slot used in any good block"
+    × AnAddGoesBehindTheLastUsed
+    × ThatPlaceIsTaken
+    -- "15 slots", "always the first ones"
+    × AddsFillZeroedBlocksInOrder
+    -- "any single changed byte in a block must be noticed"
+    × AnyChangedByteIsNoticed
+    -- "a bad block must not spoil the reading of the others"
+    × ABlockSpoilsNoOther
+    -- "19 region not whole blocks", "21 no such free slot for an add (a region of no blocks included)"
+    × NoSuchPlaceIsRefused
+    × NoBlocksAreGoodAndFull
+    -- "a refused add leaves the region as it stood"
+    × ARefusedAddLeavesTheRegion

@@ -1,0 +1,20 @@
+-- Wrong programs of the log, in the way of document 01's last section.
+use mathlib.Core.List.{List}
+use Prim.Native.Nat.{ℕ}
+use Rattle.refusals.specs.Refusals.{Outcome, done, refused}
+use Rattle.log.specs.declared.Place.{Place}
+use Rattle.log.specs.declared.verify.Verified.{Verified}
+use Rattle.log.specs.declared.verify.Verified.the-variants.{AllGood}
+use Rattle.log.specs.Add.{placeAt}
+
+-- an add that does nothing and answers a place
+abbrev pub idleAdd : List ℕ → List ℕ → Outcome Place × List ℕ
+idleAdd region telegram = (done (placeAt 0 0), region)
+
+-- a read back that refuses everything
+abbrev pub refusingReadBack : List ℕ → ℕ → ℕ → Outcome (List ℕ)
+refusingReadBack region block slot = refused 27
+
+-- a verify that always says that all is good
+abbrev pub trustingVerify : List ℕ → Verified
+trustingVerify region = AllGood
