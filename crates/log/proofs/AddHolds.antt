@@ -1,43 +1,29 @@
 -- What the document says of an add holds: what was added is read back, and no more changes than it has to. Assumes nothing.
-use mathlib.Core.Path.{_≡_, refl, ap, ap₂, sym, _∙_}
-use mathlib.Core.Bool.{Bool, true, false}
+use mathlib.Core.Path.{_≡_, refl, ap, sym, _∙_}
+use mathlib.Core.Bool.{true, false}
 use mathlib.Core.List.{List}
 use mathlib.Core.Logic.{⊎-elim}
-use Prim.Native.Nat.{ℕ, _+_, _*_, _<_}
+use Prim.Native.Nat.{ℕ, _+_, _*_, _%_, _<_}
 use native.Mathlib.Omega.{arith}
+use lib.Dec.{eqb}
 use lib.ListN.{length, getD}
-use borrow.Author.Tests.{lt-ltb}
-use Rattle.refusals.specs.Refusals.{Outcome, done, refused, after}
-use Rattle.record.specs.declared.Record.{Record}
-use Rattle.telegram.specs.Reading.{readOf}
+use Rattle.refusals.specs.Refusals.{Outcome, done, refused}
 use Rattle.log.specs.declared.Place.{Place}
-use Rattle.log.specs.Block.{slots, blockSize}
-use Rattle.log.specs.Good.{countIn, isDone, readsWell, isGood}
+use Rattle.log.specs.Block.{slots, slotSize, blockSize}
+use Rattle.log.specs.Good.{countIn, readsWell, isGood}
 use Rattle.log.specs.Region.{isWhole}
-use Rattle.log.specs.Add.{placeIn, placeFor, blockAt, withBlock, entered, regionAfter, addOf}
-use Rattle.log.specs.ReadBack.{readBackOf}
-use Rattle.log.specs.OfTheLog.{blocksIn, FirstFreeBehindTheLastUsed, WhatIsAddedIsReadBack, WhatWasReadBackStillIs, GoodBlocksStayGood, OutsideTheSlot, NoOtherByteChanges, ARefusedAddLeavesTheRegion, ABlockSpoilsNoOther}
-use Rattle.log.proofs.PlaceLaws.{place-broken}
+use Rattle.log.specs.Add.{placeFor, blockAt, withBlock, entered, addOf}
+use Rattle.log.specs.ReadBack.{telegramAt, readBackOf}
+use Rattle.log.specs.OfTheLog.{FirstFreeBehindTheLastUsed, WhatIsAddedIsReadBack, WhatWasReadBackStillIs}
+use Rattle.log.specs.OfTheLog.{GoodBlocksStayGood, OutsideTheSlot, NoOtherByteChanges}
+use Rattle.log.specs.OfTheLog.{ARefusedAddLeavesTheRegion, ABlockSpoilsNoOther}
+use Rattle.log.proofs.EitherLaws.{clash, eq-or-ne, Beside, in-or-beside, beside}
+use Rattle.log.proofs.RegionLaws.{block-byte, with-length, with-there, with-byte, with-other}
+use Rattle.log.proofs.ReadBackLaws.{read-same, from-block}
+use Rattle.log.proofs.EnterLaws.{entered-length, entered-good, entered-read, entered-keeps, entered-byte}
+use Rattle.log.proofs.PlaceLaws.{placed-whole}
 use Rattle.log.proofs.PlaceHolds.{an-add-goes-behind-the-last-used}
-use Rattle.log.proofs.AddLaws.{eq-or-ne, Beside, in-or-beside, block-byte, with-length, with-there, byte-beside, with-other, readIn, read-back-in, read-same, read-kept, entered-length, entered-good, entered-read, entered-keeps, entered-byte}
-
--- a telegram that is given a place reads well, and the place is the region's
-given-place : (region telegram : List ℕ) (place : Place) → placeFor region telegram ≡ done place
-    → (readsWell telegram ≡ true) × (placeIn region ≡ done place)
-unfolding placeFor readsWell
-given-place region telegram place = go (readOf true telegram)
-  where
-    go : (o : Outcome Record) → after o (λ rec. placeIn region) ≡ done place → (isDone o ≡ true) × (placeIn region ≡ done place)
-    go (done rec) e = (refl, e)
-    go (refused n) e = let z : _≡_ {A = ℕ} 0 1 = cc in absurd (omega arith)
-
--- and a region with a place is whole
-placed-whole : (region : List ℕ) (place : Place) → placeIn region ≡ done place → isWhole region ≡ true
-placed-whole region place e = go (isWhole region) refl
-  where
-    go : (whole : Bool) → isWhole region ≡ whole → isWhole region ≡ true
-    go true f = f
-    go false f = let none = place-broken region f in let z : _≡_ {A = ℕ} 0 1 = cc in absurd (omega arith)
+use Rattle.log.proofs.AddLaws.{add-is, given-place}
 
 -- An add that is done.
 module _ (region telegram : List ℕ) (place : Place) where
@@ -69,8 +55,7 @@ module _ (region telegram : List ℕ) (place : Place) where
 
     -- one block changes
     left-is : left ≡ withBlock (place .block) is region
-    unfolding addOf
-    left-is = ap (λ answer. regionAfter answer region telegram) added
+    left-is = ap (λ both. both .1) (add-is region telegram added)
 
     left-length : length left ≡ length region
     left-length = ap length left-is ∙ with-length (place .block) is region (found .there) size
@@ -83,20 +68,23 @@ module _ (region telegram : List ℕ) (place : Place) where
         ap (blockAt other) left-is ∙ with-other (place .block) is region (found .there) size other apart
 
     -- what is read back: the telegram, and what was read back before, from this block or from another
+    read-left : (slot : ℕ) → readBackOf left (place .block) slot ≡ telegramAt slot is
+    read-left slot =
+        let still : isWhole left ≡ true = ap (λ n. eqb (n % blockSize) 0) left-length ∙ whole in
+        from-block left (place .block) slot still (omega (arith, left-length, found .there)) ∙ ap (telegramAt slot) left-there
+
     read-at-place : readBackOf left (place .block) (place .slot) ≡ done telegram
     read-at-place =
-        read-back-in left (place .block) (place .slot)
-        ∙ rw (left-length, whole, lt-ltb (place .block) (blocksIn region) (found .there), left-there, found .next)
-        (entered-read was telegram (found .good) free reads)
+        read-left (place .slot)
+        ∙ ap (λ slot. telegramAt slot is) (found .next)
+        ∙ entered-read was telegram (found .good) free reads
 
     read-here : (bytes : List ℕ) (slot : ℕ) → readBackOf region (place .block) slot ≡ done bytes
         → readBackOf left (place .block) slot ≡ done bytes
     read-here bytes slot e =
-        read-back-in left (place .block) slot
-        ∙ ap₂ (λ n block. readIn n block (place .block) slot) left-length left-there
-        ∙ read-kept (length region) (place .block) slot was is bytes
-        (entered-keeps was telegram (found .good) free reads slot bytes)
-        (sym (read-back-in region (place .block) slot) ∙ e)
+        read-left slot
+        ∙ entered-keeps was telegram (found .good) free reads slot bytes
+        (sym (from-block region (place .block) slot whole (found .there)) ∙ e)
 
     read-on : (bytes : List ℕ) (block slot : ℕ) → readBackOf region block slot ≡ done bytes
         → readBackOf left block slot ≡ done bytes
@@ -117,10 +105,7 @@ module _ (region telegram : List ℕ) (place : Place) where
 
     stays-bad : (number : ℕ) → isGood (blockAt number region) ≡ false → blockAt number left ≡ blockAt number region
     stays-bad number bad =
-        left-other number
-        (λ here.
-        let was-good = ap (λ n. isGood (blockAt n region)) here ∙ found .good in
-        let z : _≡_ {A = ℕ} 0 1 = cc in omega arith)
+        left-other number (λ here. clash (ap (λ n. isGood (blockAt n region)) here ∙ found .good) bad)
 
     -- a byte outside the slot, the count and the check: in this block, and in any
     byte-here : (k : ℕ) → k < blockSize → OutsideTheSlot place (blockSize * place .block + k)
@@ -129,7 +114,7 @@ module _ (region telegram : List ℕ) (place : Place) where
         sym (block-byte (place .block) left k less)
         ∙ ap (λ block. getD block k 0) left-there
         ∙ entered-byte was telegram (found .good) free reads k
-        (λ j small e. outside .slot j small (omega (arith, found .next)))
+        (beside k (slotSize * countIn was) slotSize (λ j small e. outside .slot j small (omega (arith, found .next))))
         (omega (arith, outside .low, outside .high))
         (λ e. outside .count (omega arith))
         ∙ block-byte (place .block) region k less
@@ -142,7 +127,7 @@ module _ (region telegram : List ℕ) (place : Place) where
 
         beside-it : Beside at (blockSize * place .block) blockSize → getD left at 0 ≡ getD region at 0
         beside-it apart =
-            ap (λ bytes. getD bytes at 0) left-is ∙ byte-beside (place .block) is region (found .there) size at apart
+            ap (λ bytes. getD bytes at 0) left-is ∙ with-byte (place .block) is region (found .there) size at apart
 
 pub what-is-added-is-read-back : WhatIsAddedIsReadBack
 what-is-added-is-read-back = read-at-place
@@ -151,8 +136,7 @@ pub no-other-byte-changes : NoOtherByteChanges
 no-other-byte-changes region telegram place added = (left-length region telegram place added, byte-on region telegram place added)
 
 pub a-refused-add-leaves-the-region : ARefusedAddLeavesTheRegion
-unfolding addOf
-a-refused-add-leaves-the-region region telegram number e = ap (λ answer. regionAfter answer region telegram) e
+a-refused-add-leaves-the-region region telegram number e = ap (λ both. both .1) (add-is region telegram e)
 
 -- done or refused
 pub what-was-read-back-still-is : WhatWasReadBackStillIs

@@ -1,8 +1,6 @@
 -- What document 02 c) says of a block holds. Assumes nothing.
-use mathlib.Core.Path.{_≡_, refl, ap, sym, _∙_}
+use mathlib.Core.Path.{ap, _∙_}
 use mathlib.Core.List.{[]}
-use lib.ListN.{replicate}
-use Rattle.log.specs.Block.{blockSize}
 use Rattle.log.specs.Good.{telegramsOf, isGood}
 use Rattle.log.specs.OfABlock.{AGoodBlockIsMadeByItsTelegrams, AGoodBlockHas512Bytes, AZeroedBlockIsGoodAndEmpty}
 use Rattle.log.proofs.BlockLaws.{none-kept, made-telegrams, made-good, good-kept, good-made, good-length, zeroed-made}

@@ -1,12 +1,12 @@
 -- Laws of a block and its telegrams: the block that they make is good and has them. Assumes nothing.
 use mathlib.Core.Path.{_≡_, refl, ap, ap₂, sym, _∙_}
-use mathlib.Core.Bool.{Bool, true, false, _&&_}
-use mathlib.Core.List.{List, [], _∷_, _++_, append-assoc}
-use Prim.Native.Nat.{ℕ, zero, suc, _+_, _*_, _-_, _≤_, _<_}
+use mathlib.Core.Bool.{true}
+use mathlib.Core.List.{List, [], _∷_, _++_, append-assoc, append-nil}
+use Prim.Native.Nat.{ℕ, zero, suc, _*_, _-_, _≤_, _<_}
 use native.Mathlib.Omega.{arith}
 use lib.Dec.{leb}
-use lib.ListN.{length, take, drop, getD, replicate, length-append, length-replicate, length-take, length-drop}
-use lib.Seq.{take-append-seam, take-at, drop-at, getD-at}
+use lib.ListN.{length, take, drop, getD, replicate, length-append}
+use lib.Seq.{take-append-seam, ext-getD, take-at, drop-at, getD-at}
 use borrow.Author.Tests.{leb-true, le-leb}
 use Rattle.refusals.specs.Refusals.{Outcome, done, refused}
 use Rattle.refusals.proofs.Laws.{both}
@@ -18,8 +18,11 @@ use Rattle.telegram.specs.Writing.{telegramOf}
 use Rattle.telegram.proofs.BackAndForth.{accepted-is-written}
 use Rattle.telegram.proofs.WriteLaws.{length-body, length-framed}
 use Rattle.log.specs.Check.{checkOf, lowFirst}
-use Rattle.log.specs.Block.{slots, slotSize, countPlace, checkPlace, blockSize, filled, slotOf, slotsOf, bodyOf, sealed, blockOf}
-use Rattle.log.specs.Good.{countIn, telegramIn, telegramsFrom, telegramsOf, isDone, readsWell, allReadWell, same, isKept, isGood}
+use Rattle.log.specs.Block.{slots, slotSize, countPlace, checkPlace, blockSize}
+use Rattle.log.specs.Block.{filled, slotOf, slotsOf, bodyOf, sealed, blockOf}
+use Rattle.log.specs.Good.{countIn, telegramIn, telegramsFrom, telegramsOf}
+use Rattle.log.specs.Good.{isDone, readsWell, allReadWell, same, isKept, isGood}
+use Rattle.log.proofs.PartLaws.{behind-first}
 use Rattle.log.proofs.SameLaws.{same-true, same-refl, length-filled}
 
 -- an accepted telegram fits a slot
@@ -39,7 +42,7 @@ abbrev pub AllShort : List (List ℕ) → Type 0
 AllShort [] = Unit {0}
 AllShort (telegram ∷ telegrams) = (length telegram < slotSize) × AllShort telegrams
 
-pub read-are-short : (telegrams : List (List ℕ)) → allReadWell telegrams ≡ true → AllShort telegrams
+read-are-short : (telegrams : List (List ℕ)) → allReadWell telegrams ≡ true → AllShort telegrams
 read-are-short [] e = tt
 read-are-short (telegram ∷ telegrams) e =
     let parts = both (readsWell telegram) (allReadWell telegrams) e in
@@ -52,23 +55,34 @@ length-slot telegram short = length-filled slotSize (length telegram ∷ telegra
 pub length-slots : (telegrams : List (List ℕ)) → AllShort telegrams → length (slotsOf telegrams) ≡ slotSize * length telegrams
 length-slots [] short = refl
 length-slots (telegram ∷ telegrams) short =
-    omega (arith, length-append (slotOf telegram) (slotsOf telegrams), length-slot telegram (short .0), length-slots telegrams (short .1))
+    omega (
+      arith,
+      length-append (slotOf telegram) (slotsOf telegrams),
+      length-slot telegram (short .0),
+      length-slots telegrams (short .1),
+    )
 
 -- what a slot holds is the telegram that it was made of
 slot-holds : (telegram : List ℕ) → telegramIn (slotOf telegram) ≡ telegram
 unfolding telegramIn slotOf filled
 slot-holds telegram = take-append-seam telegram (replicate (slotSize - suc (length telegram)) 0)
 
-slots-hold : (telegrams : List (List ℕ)) (rest : List ℕ) → AllShort telegrams → telegramsFrom (length telegrams) (slotsOf telegrams ++ rest) ≡ telegrams
-slots-hold [] rest short = refl
-slots-hold (telegram ∷ telegrams) rest short =
-    let size = length-slot telegram (short .0) in
-    let whole = append-assoc (slotOf telegram) (slotsOf telegrams) rest in
-    ap₂ _∷_
-    (ap telegramIn (ap (take slotSize) whole ∙ take-at (slotOf telegram) (slotsOf telegrams ++ rest) slotSize size) ∙ slot-holds telegram)
-    (ap (telegramsFrom (length telegrams)) (ap (drop slotSize) whole ∙ drop-at (slotOf telegram) (slotsOf telegrams ++ rest) slotSize size)
-    ∙ slots-hold telegrams rest (short .1))
+-- the slot of a number
+pub slot-at : (telegrams : List (List ℕ)) (rest : List ℕ) (at : ℕ) → AllShort telegrams → at < length telegrams
+    → take slotSize (drop (slotSize * at) (slotsOf telegrams ++ rest)) ≡ slotOf (getD telegrams at [])
+slot-at [] rest at short h = absurd (omega arith)
+slot-at (telegram ∷ telegrams) rest zero short h =
+    ap (take slotSize) (append-assoc (slotOf telegram) (slotsOf telegrams) rest)
+    ∙ take-at (slotOf telegram) (slotsOf telegrams ++ rest) slotSize (length-slot telegram (short .0))
+slot-at (telegram ∷ telegrams) rest (suc at) short h =
+    let bytes = slotsOf (telegram ∷ telegrams) ++ rest in
+    let behind : drop slotSize bytes ≡ slotsOf telegrams ++ rest =
+    ap (drop slotSize) (append-assoc (slotOf telegram) (slotsOf telegrams) rest)
+    ∙ drop-at (slotOf telegram) (slotsOf telegrams ++ rest) slotSize (length-slot telegram (short .0)) in
+    ap (take slotSize) (sym (behind-first slotSize at bytes) ∙ ap (drop (slotSize * at)) behind)
+    ∙ slot-at telegrams rest at (short .1) (omega arith)
 
+-- so many telegrams, and the one of a number
 count-from : (n : ℕ) (bytes : List ℕ) → length (telegramsFrom n bytes) ≡ n
 count-from zero bytes = refl
 count-from (suc n) bytes = ap suc (count-from n (drop slotSize bytes))
@@ -77,13 +91,42 @@ pub count-telegrams : (block : List ℕ) → length (telegramsOf block) ≡ coun
 unfolding telegramsOf
 count-telegrams block = count-from (countIn block) block
 
--- What at most 15 telegrams that fit their slots make.
-module _ (telegrams : List (List ℕ)) (few : length telegrams ≤ slots) (short : AllShort telegrams) where
-  used : length (slotsOf telegrams) ≤ countPlace
-  used = omega (arith, length-slots telegrams short)
+telegram-at : (n at : ℕ) (bytes : List ℕ) → at < n
+    → getD (telegramsFrom n bytes) at [] ≡ telegramIn (take slotSize (drop (slotSize * at) bytes))
+telegram-at zero at bytes h = absurd (omega arith)
+telegram-at (suc n) zero bytes h = refl
+telegram-at (suc n) (suc at) bytes h =
+    telegram-at n at (drop slotSize bytes) (omega arith)
+    ∙ ap (λ rest. telegramIn (take slotSize rest)) (behind-first slotSize at bytes)
 
+pub telegrams-at : (block : List ℕ) (at : ℕ) → at < countIn block
+    → getD (telegramsOf block) at [] ≡ telegramIn (take slotSize (drop (slotSize * at) block))
+unfolding telegramsOf
+telegrams-at block at h = telegram-at (countIn block) at block h
+
+slots-hold : (telegrams : List (List ℕ)) (rest : List ℕ) → AllShort telegrams
+    → telegramsFrom (length telegrams) (slotsOf telegrams ++ rest) ≡ telegrams
+slots-hold telegrams rest short =
+    let bytes = slotsOf telegrams ++ rest in
+    let size = count-from (length telegrams) bytes in
+    ext-getD [] (telegramsFrom (length telegrams) bytes) telegrams size
+    (λ at h.
+    telegram-at (length telegrams) at bytes (omega (arith, size, h))
+    ∙ ap telegramIn (slot-at telegrams rest at short (omega (arith, size, h)))
+    ∙ slot-holds (getD telegrams at []))
+
+-- the slots with one telegram more
+pub slots-more : (telegrams : List (List ℕ)) (telegram : List ℕ)
+    → slotsOf (telegrams ++ telegram ∷ []) ≡ slotsOf telegrams ++ slotOf telegram
+slots-more [] telegram = append-nil (slotOf telegram)
+slots-more (first ∷ telegrams) telegram =
+    ap (_++_ (slotOf first)) (slots-more telegrams telegram)
+    ∙ sym (append-assoc (slotOf first) (slotsOf telegrams) (slotOf telegram))
+
+-- The sizes of what at most 15 telegrams that fit their slots make.
+module _ (telegrams : List (List ℕ)) (few : length telegrams ≤ slots) (short : AllShort telegrams) where
   pub length-slot-part : length (filled countPlace (slotsOf telegrams)) ≡ countPlace
-  length-slot-part = length-filled countPlace (slotsOf telegrams) used
+  length-slot-part = length-filled countPlace (slotsOf telegrams) (omega (arith, length-slots telegrams short))
 
   pub length-counted : length (filled countPlace (slotsOf telegrams) ++ length telegrams ∷ []) ≡ suc countPlace
   length-counted =
@@ -91,67 +134,50 @@ module _ (telegrams : List (List ℕ)) (few : length telegrams ≤ slots) (short
 
   pub length-body-of : length (bodyOf telegrams) ≡ checkPlace
   unfolding bodyOf
-  length-body-of = length-filled checkPlace (filled countPlace (slotsOf telegrams) ++ length telegrams ∷ []) (omega (arith, length-counted))
+  length-body-of =
+      length-filled checkPlace (filled countPlace (slotsOf telegrams) ++ length telegrams ∷ []) (omega (arith, length-counted))
 
-  pub length-block : length (blockOf telegrams) ≡ blockSize
-  unfolding sealed
-  length-block = omega (arith, length-append (bodyOf telegrams) (lowFirst (checkOf (bodyOf telegrams))), length-body-of)
+-- telegrams that read well, part by part
+pub all-take : (n : ℕ) (telegrams : List (List ℕ)) → allReadWell telegrams ≡ true → allReadWell (take n telegrams) ≡ true
+all-take zero telegrams all = refl
+all-take (suc n) [] all = refl
+all-take (suc n) (telegram ∷ telegrams) all =
+    let parts = both (readsWell telegram) (allReadWell telegrams) all in
+    rw (parts .0) (all-take n telegrams (parts .1))
 
-  -- the slots, zeros, the count, zeros, the check
-  pub block-shape : blockOf telegrams
-      ≡ slotsOf telegrams ++ (replicate (countPlace - length (slotsOf telegrams)) 0 ++ (length telegrams
-      ∷ (replicate 29 0 ++ lowFirst (checkOf (bodyOf telegrams)))))
-  unfolding sealed bodyOf filled
-  block-shape =
-      let bytes = slotsOf telegrams in
-      let gap : List ℕ = replicate (countPlace - length bytes) 0 in
-      let last = lowFirst (checkOf (bodyOf telegrams)) in
-      let left : checkPlace - length (filled countPlace bytes ++ length telegrams ∷ []) ≡ 29 = omega (arith, length-counted) in
-      ap (λ k. (((bytes ++ gap) ++ length telegrams ∷ []) ++ replicate k 0) ++ last) left
-      ∙ append-assoc ((bytes ++ gap) ++ length telegrams ∷ []) (replicate 29 0) last
-      ∙ append-assoc (bytes ++ gap) (length telegrams ∷ []) (replicate 29 0 ++ last)
-      ∙ append-assoc bytes gap (length telegrams ∷ (replicate 29 0 ++ last))
+pub all-drop : (n : ℕ) (telegrams : List (List ℕ)) → allReadWell telegrams ≡ true → allReadWell (drop n telegrams) ≡ true
+all-drop zero telegrams all = all
+all-drop (suc n) [] all = refl
+all-drop (suc n) (telegram ∷ telegrams) all =
+    all-drop n telegrams (both (readsWell telegram) (allReadWell telegrams) all .1)
 
-  pub block-count : countIn (blockOf telegrams) ≡ length telegrams
-  block-count =
-      let bytes = slotsOf telegrams in
-      let gap : List ℕ = replicate (countPlace - length bytes) 0 in
-      let rest : List ℕ = replicate 29 0 ++ lowFirst (checkOf (bodyOf telegrams)) in
-      ap (λ block. getD block countPlace 0) (block-shape ∙ sym (append-assoc bytes gap (length telegrams ∷ rest)))
-      ∙ getD-at (bytes ++ gap) (length telegrams) rest 0 countPlace
-      (omega (arith, length-append bytes gap, length-replicate {A = ℕ} (countPlace - length bytes) 0, used))
-
-  pub block-telegrams : telegramsOf (blockOf telegrams) ≡ telegrams
-  unfolding telegramsOf
-  block-telegrams = ap₂ telegramsFrom block-count block-shape ∙ slots-hold telegrams _ short
+pub all-more : (telegrams more : List (List ℕ)) → allReadWell telegrams ≡ true → allReadWell more ≡ true
+    → allReadWell (telegrams ++ more) ≡ true
+all-more [] more all all-too = all-too
+all-more (telegram ∷ telegrams) more all all-too =
+    let parts = both (readsWell telegram) (allReadWell telegrams) all in
+    rw (parts .0) (all-more telegrams more (parts .1) all-too)
 
 -- telegrams that one block keeps
-pub kept-parts : (telegrams : List (List ℕ)) → isKept telegrams ≡ true → (length telegrams ≤ slots) × (allReadWell telegrams ≡ true)
+kept-parts : (telegrams : List (List ℕ)) → isKept telegrams ≡ true → (length telegrams ≤ slots) × (allReadWell telegrams ≡ true)
 unfolding isKept
 kept-parts telegrams kept =
     let parts = both (leb (length telegrams) slots) (allReadWell telegrams) kept in
     (leb-true (length telegrams) slots (parts .0), parts .1)
 
-pub none-kept : isKept [] ≡ true
+pub kept-by : (telegrams : List (List ℕ)) → length telegrams ≤ slots → allReadWell telegrams ≡ true → isKept telegrams ≡ true
 unfolding isKept
-none-kept = refl
+kept-by telegrams few all = rw (le-leb (length telegrams) slots few) all
 
-all-read-more : (telegrams : List (List ℕ)) (telegram : List ℕ) → allReadWell telegrams ≡ true → readsWell telegram ≡ true
-    → allReadWell (telegrams ++ telegram ∷ []) ≡ true
-all-read-more [] telegram all reads = rw reads
-all-read-more (first ∷ telegrams) telegram all reads =
-    let parts = both (readsWell first) (allReadWell telegrams) all in
-    rw (parts .0) (all-read-more telegrams telegram (parts .1) reads)
-
-pub kept-more : (telegrams : List (List ℕ)) (telegram : List ℕ) → isKept telegrams ≡ true → length telegrams < slots → readsWell telegram ≡ true
+pub kept-more : (telegrams : List (List ℕ)) (telegram : List ℕ) → isKept telegrams ≡ true → length telegrams < slots
+    → readsWell telegram ≡ true
     → isKept (telegrams ++ telegram ∷ []) ≡ true
-unfolding isKept
 kept-more telegrams telegram kept free reads =
-    let parts = kept-parts telegrams kept in
-    rw (le-leb (length (telegrams ++ telegram ∷ [])) slots (omega (arith, length-append telegrams (telegram ∷ []))))
-    (all-read-more telegrams telegram (parts .1) reads)
+    kept-by (telegrams ++ telegram ∷ [])
+    (omega (arith, length-append telegrams (telegram ∷ [])))
+    (all-more telegrams (telegram ∷ []) (kept-parts telegrams kept .1) (rw reads))
 
--- what a list of telegrams makes that one block keeps
+-- What they make.
 module _ (telegrams : List (List ℕ)) (kept : isKept telegrams ≡ true) where
   pub kept-count : length telegrams ≤ slots
   kept-count = kept-parts telegrams kept .0
@@ -163,30 +189,69 @@ module _ (telegrams : List (List ℕ)) (kept : isKept telegrams ≡ true) where
   body-length = length-body-of telegrams kept-count kept-short
 
   pub made-length : length (blockOf telegrams) ≡ blockSize
-  made-length = length-block telegrams kept-count kept-short
+  unfolding sealed
+  made-length = omega (arith, length-append (bodyOf telegrams) (lowFirst (checkOf (bodyOf telegrams))), body-length)
+
+  abbrev bytes : List ℕ
+  bytes = slotsOf telegrams
+
+  abbrev gap : List ℕ
+  gap = replicate (countPlace - length bytes) 0
+
+  abbrev last : List ℕ
+  last = lowFirst (checkOf (bodyOf telegrams))
+
+  -- the slots, zeros, the count, zeros
+  pub body-shape : bodyOf telegrams ≡ (bytes ++ gap) ++ (length telegrams ∷ replicate 29 0)
+  unfolding bodyOf filled
+  body-shape =
+      let counted = length-counted telegrams kept-count kept-short in
+      let left : checkPlace - length (filled countPlace bytes ++ length telegrams ∷ []) ≡ 29 = omega (arith, counted) in
+      ap (λ k. ((bytes ++ gap) ++ length telegrams ∷ []) ++ replicate k 0) left
+      ∙ append-assoc (bytes ++ gap) (length telegrams ∷ []) (replicate 29 0)
+
+  -- and behind them the check
+  whole-shape : blockOf telegrams ≡ (bytes ++ gap) ++ (length telegrams ∷ (replicate 29 0 ++ last))
+  unfolding sealed
+  whole-shape =
+      ap (λ body. body ++ last) body-shape ∙ append-assoc (bytes ++ gap) (length telegrams ∷ replicate 29 0) last
+
+  pub block-shape : blockOf telegrams ≡ bytes ++ (gap ++ (length telegrams ∷ (replicate 29 0 ++ last)))
+  block-shape = whole-shape ∙ append-assoc bytes gap (length telegrams ∷ (replicate 29 0 ++ last))
 
   pub made-count : countIn (blockOf telegrams) ≡ length telegrams
-  made-count = block-count telegrams kept-count kept-short
+  unfolding filled
+  made-count =
+      ap (λ block. getD block countPlace 0) whole-shape
+      ∙ getD-at (bytes ++ gap) (length telegrams) (replicate 29 0 ++ last) 0 countPlace
+      (length-slot-part telegrams kept-count kept-short)
 
   pub made-telegrams : telegramsOf (blockOf telegrams) ≡ telegrams
-  made-telegrams = block-telegrams telegrams kept-count kept-short
+  unfolding telegramsOf
+  made-telegrams = ap₂ telegramsFrom made-count block-shape ∙ slots-hold telegrams _ kept-short
 
   pub made-good : isGood (blockOf telegrams) ≡ true
   unfolding isGood
   made-good = rw (made-telegrams, kept) (same-refl (blockOf telegrams))
 
--- a good block is made by its telegrams
+-- A good block is made by its telegrams.
 module _ (block : List ℕ) (good : isGood block ≡ true) where
-  pub good-kept : isKept (telegramsOf block) ≡ true
+  good-parts : (isKept (telegramsOf block) ≡ true) × (same block (blockOf (telegramsOf block)) ≡ true)
   unfolding isGood
-  good-kept = both (isKept (telegramsOf block)) (same block (blockOf (telegramsOf block))) good .0
+  good-parts = both (isKept (telegramsOf block)) (same block (blockOf (telegramsOf block))) good
+
+  pub good-kept : isKept (telegramsOf block) ≡ true
+  good-kept = good-parts .0
 
   pub good-made : block ≡ blockOf (telegramsOf block)
-  unfolding isGood
-  good-made = same-true block (blockOf (telegramsOf block)) (both (isKept (telegramsOf block)) (same block (blockOf (telegramsOf block))) good .1)
+  good-made = same-true block (blockOf (telegramsOf block)) (good-parts .1)
 
   pub good-length : length block ≡ blockSize
   good-length = ap length good-made ∙ made-length (telegramsOf block) good-kept
+
+-- a zeroed block is the one that no telegrams make
+pub none-kept : isKept [] ≡ true
+none-kept = kept-by [] (omega arith) refl
 
 pub zeroed-made : replicate blockSize 0 ≡ blockOf []
 unfolding sealed bodyOf filled checkOf

@@ -1,25 +1,27 @@
 -- Laws of a block's check: its sum needs no more than 32 bits, and any changed byte is noticed. Assumes nothing.
 use mathlib.Core.Path.{_≡_, refl, ap, ap₂, sym, _∙_}
-use mathlib.Core.Bool.{Bool, true, false}
+use mathlib.Core.Bool.{true, false, not-eq-not}
 use mathlib.Core.List.{List, [], _∷_, _++_}
+use mathlib.Core.Logic.{⊎-elim}
 use Prim.Native.Nat.{ℕ, zero, suc, _+_, _*_, _-_, _%_, _≤_, _<_}
 use native.Mathlib.Omega.{arith}
 use native.Mathlib.Nat.{zero-add, add-zero, mul-le-mul, mul-le-mul-right, mul-pos, mul-mod-right}
 use native.Mathlib.Numerals.{add-one}
 use lib.Dec.{ltb}
-use lib.ListN.{length, take, drop, getD, set, length-append, take-append-drop}
+use lib.ListN.{length, take, drop, getD, set, take-append-drop}
 use lib.Seq.{length-take-le, take-suc, take-at, drop-at, take-set-le, take-set-lt, drop-set-lt, getD-take, getD-set-same}
-use borrow.Author.Tests.{ltb-true, ltb-false}
+use borrow.Author.Tests.{ltb-true}
 use Rattle.refusals.proofs.Tables.{below}
 use Rattle.log.specs.Check.{weighed, modulus, checkOf, lowFirst}
 use Rattle.log.specs.Block.{checkPlace, blockSize, bodyOf, sealed}
 use Rattle.log.specs.Good.{telegramsOf, isGood}
 use Rattle.log.specs.OfABlock.{AnyChangedByteIsNoticed, AllBytes, TheSumNeedsNoMoreThan32Bits}
-use Rattle.log.proofs.BlockLaws.{good-made, good-length}
+use Rattle.log.proofs.EitherLaws.{lt-or-le}
+use Rattle.log.proofs.BlockLaws.{body-length, good-kept, good-made, good-length}
 
 -- ---- the sum
 
-pub weighed-append : (place : ℕ) (xs ys : List ℕ) → weighed place (xs ++ ys) ≡ weighed place xs + weighed (place + length xs) ys
+weighed-append : (place : ℕ) (xs ys : List ℕ) → weighed place (xs ++ ys) ≡ weighed place xs + weighed (place + length xs) ys
 weighed-append place [] ys = ap (λ p. weighed p ys) (sym (add-zero place)) ∙ sym (zero-add _)
 weighed-append place (x ∷ xs) ys =
     let next : suc place + length xs ≡ place + suc (length xs) = omega arith in
@@ -36,7 +38,7 @@ weighed-next bytes at h =
     ∙ omega arith
 
 -- another byte at a place: the sum changes by the difference times the place
-pub weighed-set : (place : ℕ) (bytes : List ℕ) (at byte : ℕ) → at < length bytes
+weighed-set : (place : ℕ) (bytes : List ℕ) (at byte : ℕ) → at < length bytes
     → weighed place (set bytes at byte) + getD bytes at 0 * (place + at) ≡ weighed place bytes + byte * (place + at)
 weighed-set place [] at byte h = absurd (omega arith)
 weighed-set place (x ∷ xs) zero byte h = omega arith
@@ -94,16 +96,13 @@ other-check : (body : List ℕ) (place byte : ℕ)
     → checkOf (set body place byte) ≡ checkOf body → ⊥
 unfolding checkOf
 other-check body place byte inside p old new other same =
-    go (ltb byte (getD body place 0)) refl (weighed-set 1 body place byte inside)
-  where
-    go : (t : Bool) → ltb byte (getD body place 0) ≡ t
-        → weighed 1 (set body place byte) + getD body place 0 * (1 + place) ≡ weighed 1 body + byte * (1 + place) → ⊥
-    go true e moved =
-        let less = ltb-true byte (getD body place 0) e in
-        checks-differ _ _ byte (getD body place 0) (1 + place) less old (omega arith) (omega arith) (sym moved) (sym same)
-    go false e moved =
-        let least = ltb-false byte (getD body place 0) e in
-        checks-differ _ _ (getD body place 0) byte (1 + place) (omega arith) new (omega arith) (omega arith) moved same
+    let moved = weighed-set 1 body place byte inside in
+    ⊎-elim
+    (λ less.
+    checks-differ _ _ byte (getD body place 0) (1 + place) less old (omega arith) (omega arith) (sym moved) (sym same))
+    (λ least.
+    checks-differ _ _ (getD body place 0) byte (1 + place) (omega arith) new (omega arith) (omega arith) moved same)
+    (lt-or-le byte (getD body place 0))
 
 -- ---- the stored check
 
@@ -116,7 +115,7 @@ unfolding sealed
 good-stored block good =
     let body = bodyOf (telegramsOf block) in
     let made : block ≡ body ++ lowFirst (checkOf body) = good-made block good in
-    let size : length body ≡ checkPlace = omega (arith, good-length block good, ap length made ∙ length-append body _) in
+    let size = body-length (telegramsOf block) (good-kept block good) in
     let front : take checkPlace block ≡ body = ap (take checkPlace) made ∙ take-at body _ checkPlace size in
     ap (drop checkPlace) made ∙ drop-at body _ checkPlace size ∙ ap (λ b. lowFirst (checkOf b)) (sym front)
 
@@ -146,17 +145,10 @@ module _ (block : List ℕ) (place byte : ℕ) (size : length block ≡ blockSiz
       other (sym (getD-set-same block place byte 0 (omega arith)) ∙ ap (λ b. getD b place 0) same)
 
   not-stored : ⊥
-  not-stored = go (ltb place checkPlace) refl
-    where
-      go : (t : Bool) → ltb place checkPlace ≡ t → ⊥
-      go true e = before-it (ltb-true _ _ e)
-      go false e = in-it (ltb-false _ _ e)
+  not-stored = ⊎-elim before-it in-it (lt-or-le place checkPlace)
 
 pub noticed : AnyChangedByteIsNoticed
-noticed block place byte good there old new other = go (isGood (set block place byte)) refl
-  where
-    go : (t : Bool) → isGood (set block place byte) ≡ t → isGood (set block place byte) ≡ false
-    go true e =
-        let size = good-length block good in
-        absurd (not-stored block place byte size there old new other (good-stored block good) (good-stored _ e))
-    go false e = e
+noticed block place byte good there old new other =
+    not-eq-not {a = isGood (set block place byte)} {b = false} .0
+    (λ still.
+    not-stored block place byte (good-length block good) there old new other (good-stored block good) (good-stored _ still))

@@ -12,6 +12,7 @@ use Rattle.log.specs.declared.Place.{Place}
 use Rattle.log.specs.Block.{slots}
 use Rattle.log.specs.Good.{countIn, isGood}
 use Rattle.log.specs.Add.{placeAt, firstFree, someUsed, freeBehindUsed}
+use Rattle.log.proofs.EitherLaws.{clash}
 
 abbrev pub isFree : List ℕ → Bool
 isFree block = isGood block && ltb (countIn block) slots
@@ -43,10 +44,6 @@ pub record Chosen (blocks : List (List ℕ)) (number : ℕ) : Type 0 where
 pub data Answered (Is : ℕ → Type 0) (number : ℕ) (blocks : List (List ℕ)) (answer : Outcome Place) : Type 0 where
   in-block : (k : ℕ) → Is k → answer ≡ done (placeAt (number + k) (countIn (getD blocks k []))) → Answered Is number blocks answer
   nowhere : ((k : ℕ) → Is k → ⊥) → answer ≡ refused 21 → Answered Is number blocks answer
-
--- true is not false
-clash : {b : Bool} → b ≡ true → b ≡ false → ⊥
-clash t f = let z : _≡_ {A = ℕ} 0 1 = cc in omega arith
 
 -- One block in front.
 module _ (block : List ℕ) (blocks : List (List ℕ)) where

@@ -1,77 +1,109 @@
--- Laws of one telegram more in a block. Assumes nothing.
+-- Laws of one telegram more in a good block: what is read back, how it comes to stand there, and which bytes change.
+-- Assumes nothing.
 use mathlib.Core.Path.{_≡_, refl, ap, ap₂, sym, _∙_}
 use mathlib.Core.Bool.{true}
-use mathlib.Core.List.{List, [], _∷_, _++_, append-assoc, append-nil}
-use Prim.Native.Nat.{ℕ, zero, suc, _+_, _*_, _-_, _≤_, _<_, min}
-use native.Mathlib.Numerals.{add-one}
+use mathlib.Core.List.{List, [], _∷_, _++_, append-assoc}
+use mathlib.Core.Logic.{⊎-elim, inl, inr}
+use Prim.Native.Nat.{ℕ, suc, _+_, _*_, _-_, _≤_, _<_}
 use native.Mathlib.Omega.{arith}
-use lib.ListN.{length, take, drop, getD, set, replicate, length-append, length-replicate, replicate-append-replicate}
-use lib.Seq.{paste, paste-suc, take-length, take-at, drop-at, set-at, drop-append-le, take-append-add}
-use borrow.Rule.Slice.PartMut.{putMid}
-use Rattle.laying.proofs.TailLaws.{tail-lent, tail-back}
+use lib.ListN.{length, take, drop, getD, set, replicate, length-append, length-replicate}
+use lib.ListN.{List·getD-append}
+use lib.Seq.{take-append-add, getD-set-other, getD-take, drop-drop, set-at, take-at, drop-at}
+use Rattle.refusals.specs.Refusals.{done}
 use Rattle.log.specs.Check.{checkOf, lowFirst}
-use Rattle.log.specs.Block.{slots, slotSize, countPlace, checkPlace, blockSize, filled, slotOf, slotsOf, bodyOf, sealed, blockOf}
+use Rattle.log.specs.Block.{slots, slotSize, countPlace, checkPlace, blockSize, filled, slotOf, slotsOf, bodyOf, sealed}
 use Rattle.log.specs.Good.{countIn, telegramsOf, readsWell, isKept, isGood}
 use Rattle.log.specs.Add.{entered}
-use Rattle.log.proofs.BlockLaws.{AllShort, reads-short, length-slot, length-slots, block-shape, count-telegrams, length-counted, good-kept, good-made, good-length, kept-count, kept-short, kept-more, made-length}
+use Rattle.log.specs.ReadBack.{numbered, telegramAt}
+use Rattle.log.proofs.EitherLaws.{Beside}
+use Rattle.log.proofs.PartLaws.{put-length, put-byte}
+use Rattle.log.proofs.SameLaws.{fewer, zeros-join}
+use Rattle.log.proofs.BlockLaws.{reads-short, length-slot, length-slots, slots-more, count-telegrams}
+use Rattle.log.proofs.BlockLaws.{kept-short, kept-more, body-length, body-shape, block-shape}
+use Rattle.log.proofs.BlockLaws.{made-length, made-telegrams, made-good, good-kept, good-made, good-length}
+use Rattle.log.proofs.ReadBackLaws.{numbered-kept, numbered-last, good-slot}
 
--- one byte more of a telegram that is laid behind a first byte
-pub paste-next : (slot telegram : List ℕ) (at : ℕ) → at + 1 < length slot → at < length telegram
-    → set (paste slot 1 telegram at) (at + 1) (getD telegram at 0) ≡ paste slot 1 telegram (at + 1)
-paste-next slot telegram at room more =
-    let turned : at + 1 ≡ 1 + at = omega arith in
-    ap (λ n. set (paste slot 1 telegram at) n (getD telegram at 0)) turned
-    ∙ paste-suc slot 1 telegram at 0 (omega arith) more
-    ∙ ap (paste slot 1 telegram) (sym (add-one at))
+-- a slot with a telegram laid at its front
+abbrev pub laidInto : List ℕ → List ℕ → List ℕ
+laidInto telegram slot = length telegram ∷ telegram ++ drop (suc (length telegram)) slot
 
-pub slot-laid : (slot telegram : List ℕ) → 0 < length slot
-    → paste (set slot 0 (length telegram)) 1 telegram (length telegram) ≡ length telegram ∷ telegram ++ drop (suc (length telegram)) slot
-slot-laid [] telegram some = absurd (omega arith)
-slot-laid (first ∷ rest) telegram some =
-    let next : 1 + length telegram ≡ suc (length telegram) = omega arith in
-    ap₂ (λ t d. (length telegram ∷ t) ++ d) (take-length telegram) (ap (λ n. drop n (length telegram ∷ rest)) next)
+-- another count, and what stands before the check
+counted : (front last : List ℕ) (old new : ℕ) → length front ≡ countPlace
+    → take checkPlace (set (front ++ (old ∷ (replicate 29 0 ++ last))) countPlace new) ≡ front ++ (new ∷ replicate 29 0)
+counted front last old new size =
+    let rest : List ℕ = replicate 29 0 ++ last in
+    let whole : checkPlace ≡ length front + 30 = omega (arith, size) in
+    ap (take checkPlace) (set-at front old rest new countPlace size)
+    ∙ ap (λ n. take n (front ++ (new ∷ rest))) whole
+    ∙ take-append-add front (new ∷ rest) 30
+    ∙ ap (λ z. front ++ (new ∷ z)) (take-at (replicate 29 0) last 29 (length-replicate {A = ℕ} 29 0))
 
--- the slots with one telegram more
-pub slots-more : (telegrams : List (List ℕ)) (telegram : List ℕ) → slotsOf (telegrams ++ telegram ∷ []) ≡ slotsOf telegrams ++ slotOf telegram
-slots-more [] telegram = append-nil (slotOf telegram)
-slots-more (first ∷ telegrams) telegram =
-    ap (λ s. slotOf first ++ s) (slots-more telegrams telegram) ∙ sym (append-assoc (slotOf first) (slotsOf telegrams) (slotOf telegram))
-
--- the first 510 bytes: the slots, zeros, the count, zeros
-body-shape : (telegrams : List (List ℕ)) → length telegrams ≤ slots → AllShort telegrams
-    → bodyOf telegrams ≡ (slotsOf telegrams ++ replicate (countPlace - length (slotsOf telegrams)) 0) ++ (length telegrams ∷ replicate 29 0)
-unfolding bodyOf filled
-body-shape telegrams few short =
-    let bytes = slotsOf telegrams in
-    let gap : List ℕ = replicate (countPlace - length bytes) 0 in
-    let left : checkPlace - length (filled countPlace bytes ++ length telegrams ∷ []) ≡ 29 = omega (arith, length-counted telegrams few short) in
-    ap (λ k. ((bytes ++ gap) ++ length telegrams ∷ []) ++ replicate k 0) left
-    ∙ append-assoc (bytes ++ gap) (length telegrams ∷ []) (replicate 29 0)
-
--- zeros behind the first of them
-fewer : (n k : ℕ) (rest : List ℕ) → k ≤ n → drop k (replicate n 0 ++ rest) ≡ replicate (n - k) 0 ++ rest
-fewer n zero rest less = let all : n ≡ n - zero = omega arith in ap (λ m. replicate m 0 ++ rest) all
-fewer zero (suc k) rest less = absurd (omega arith)
-fewer (suc n) (suc k) rest less =
-    let same : n - k ≡ suc n - suc k = omega arith in fewer n k rest (omega arith) ∙ ap (λ m. replicate m 0 ++ rest) same
-
--- A telegram that reads well, laid into the first free slot of a good block, and the count.
-module _ (block telegram : List ℕ) (good : isGood block ≡ true) (free : countIn block < slots) (reads : readsWell telegram ≡ true) where
+module _ (block telegram : List ℕ) (good : isGood block ≡ true) (free : countIn block < slots)
+    (reads : readsWell telegram ≡ true) where
   abbrev telegrams : List (List ℕ)
   telegrams = telegramsOf block
+
+  abbrev more : List (List ℕ)
+  more = telegrams ++ telegram ∷ []
 
   abbrev count : ℕ
   count = countIn block
 
-  abbrev bytes : List ℕ
-  bytes = slotsOf telegrams
+  how-many : length telegrams ≡ count
+  how-many = count-telegrams block
+
+  more-kept : isKept more ≡ true
+  more-kept = kept-more telegrams telegram (good-kept block good) (omega (arith, how-many, free)) reads
+
+  pub entered-length : length (entered block telegram) ≡ blockSize
+  entered-length = made-length more more-kept
+
+  pub entered-good : isGood (entered block telegram) ≡ true
+  entered-good = made-good more more-kept
+
+  -- what is read back: the telegram behind those that were there, and those
+  entered-slot : (slot : ℕ) → telegramAt slot (entered block telegram) ≡ numbered slot more
+  entered-slot slot = good-slot (entered block telegram) slot entered-good ∙ ap (numbered slot) (made-telegrams more more-kept)
+
+  pub entered-read : telegramAt count (entered block telegram) ≡ done telegram
+  entered-read = entered-slot count ∙ ap (λ slot. numbered slot more) (sym how-many) ∙ numbered-last telegrams telegram
+
+  pub entered-keeps : (slot : ℕ) (bytes : List ℕ) → telegramAt slot block ≡ done bytes
+      → telegramAt slot (entered block telegram) ≡ done bytes
+  entered-keeps slot bytes e =
+      entered-slot slot ∙ numbered-kept slot telegrams (telegram ∷ []) bytes (sym (good-slot block slot good) ∙ e)
+
+  -- the block with the telegram laid into its first free slot
+  abbrev start : ℕ
+  start = slotSize * count
 
   abbrev line : List ℕ
   line = length telegram ∷ telegram
 
-  -- the zeros that are left behind it
+  abbrev pub laid : List ℕ
+  laid = take start block ++ laidInto telegram (drop start block)
+
+  short : length telegram < slotSize
+  short = reads-short telegram reads
+
+  fits : start + suc (length telegram) ≤ length block
+  fits = omega (arith, short, free, good-length block good)
+
+  as-put : laid ≡ take start block ++ (line ++ drop (start + suc (length telegram)) block)
+  as-put = ap (λ rest. take start block ++ (line ++ rest)) (drop-drop (suc (length telegram)) start block)
+
+  pub laid-length : length laid ≡ blockSize
+  laid-length =
+      ap length as-put
+      ∙ put-length start (start + suc (length telegram)) line block refl fits
+      ∙ good-length block good
+
+  -- its bytes: the slots, the telegram and zeros, and what stood behind the slots
+  abbrev bytes : List ℕ
+  bytes = slotsOf telegrams
+
   abbrev gap : List ℕ
-  gap = replicate (countPlace - slotSize * count - suc (length telegram)) 0
+  gap = replicate (countPlace - start - suc (length telegram)) 0
 
   abbrev front : List ℕ
   front = bytes ++ (line ++ gap)
@@ -79,91 +111,73 @@ module _ (block telegram : List ℕ) (good : isGood block ≡ true) (free : coun
   abbrev last : List ℕ
   last = lowFirst (checkOf (bodyOf telegrams))
 
-  short : length telegram < slotSize
-  short = reads-short telegram reads
-
-  how-many : length telegrams ≡ count
-  how-many = count-telegrams block
-
-  all-short : AllShort telegrams
-  all-short = kept-short telegrams (good-kept block good)
-
-  size : length bytes ≡ slotSize * count
-  size = length-slots telegrams all-short ∙ ap (λ n. slotSize * n) how-many
+  size : length bytes ≡ start
+  size = length-slots telegrams (kept-short telegrams (good-kept block good)) ∙ ap (λ n. slotSize * n) how-many
 
   front-length : length front ≡ countPlace
   front-length =
-      omega (arith, length-append bytes (line ++ gap), length-append line gap, length-replicate {A = ℕ} (countPlace - slotSize * count - suc (length telegram)) 0, size, short, free)
+      omega (
+        arith,
+        length-append bytes (line ++ gap),
+        length-append line gap,
+        length-replicate {A = ℕ} (countPlace - start - suc (length telegram)) 0,
+        size,
+        short,
+        free,
+      )
 
-  shape : block ≡ bytes ++ (replicate (countPlace - slotSize * count) 0 ++ (count ∷ (replicate 29 0 ++ last)))
+  shape : block ≡ bytes ++ (replicate (countPlace - start) 0 ++ (count ∷ (replicate 29 0 ++ last)))
   shape =
       good-made block good
-      ∙ block-shape telegrams (kept-count telegrams (good-kept block good)) all-short
+      ∙ block-shape telegrams (good-kept block good)
       ∙ ap₂ (λ k n. bytes ++ (replicate (countPlace - k) 0 ++ (n ∷ (replicate 29 0 ++ last)))) size how-many
 
-  pub laid-in : take (slotSize * count) block ++ (line ++ drop (suc (length telegram)) (drop (slotSize * count) block))
-      ≡ front ++ (count ∷ (replicate 29 0 ++ last))
-  laid-in =
+  laid-shape : laid ≡ front ++ (count ∷ (replicate 29 0 ++ last))
+  laid-shape =
       let rest = count ∷ (replicate 29 0 ++ last) in
-      let all : List ℕ = replicate (countPlace - slotSize * count) 0 ++ rest in
-      let before = ap (take (slotSize * count)) shape ∙ take-at bytes all (slotSize * count) size in
-      let behind = ap (drop (slotSize * count)) shape ∙ drop-at bytes all (slotSize * count) size in
-      ap₂ (λ f b. f ++ (line ++ drop (suc (length telegram)) b)) before behind
-      ∙ ap (λ b. bytes ++ (line ++ b)) (fewer (countPlace - slotSize * count) (suc (length telegram)) rest (omega (arith, free, short)))
+      let all : List ℕ = replicate (countPlace - start) 0 ++ rest in
+      let before = ap (take start) shape ∙ take-at bytes all start size in
+      let behind = ap (drop start) shape ∙ drop-at bytes all start size in
+      ap₂ (λ f b. f ++ laidInto telegram b) before behind
+      ∙ ap (λ b. bytes ++ (line ++ b)) (fewer (countPlace - start) (suc (length telegram)) rest (omega (arith, free, short)))
       ∙ ap (λ b. bytes ++ b) (sym (append-assoc line gap rest))
       ∙ sym (append-assoc bytes (line ++ gap) rest)
 
-  slots-again : slotsOf (telegrams ++ telegram ∷ []) ++ replicate (countPlace - length (slotsOf (telegrams ++ telegram ∷ []))) 0 ≡ front
+  -- and those of the block that the telegrams make
+  more-front : slotsOf more ++ replicate (countPlace - length (slotsOf more)) 0 ≡ front
   unfolding slotOf filled
-  slots-again =
-      let more = slots-more telegrams telegram in
+  more-front =
       let inner = slotSize - suc (length telegram) in
-      let outer = countPlace - (slotSize * count + slotSize) in
-      let total : length (slotsOf (telegrams ++ telegram ∷ [])) ≡ slotSize * count + slotSize =
-      ap length more ∙ omega (arith, length-append bytes (slotOf telegram), size, length-slot telegram short) in
-      let sum : inner + outer ≡ countPlace - slotSize * count - suc (length telegram) = omega (arith, short, free) in
-      ap₂ (λ s n. s ++ replicate (countPlace - n) 0) more total
-      ∙ append-assoc bytes (line ++ replicate inner 0) (replicate outer 0)
-      ∙ ap (λ b. bytes ++ b) (append-assoc line (replicate inner 0) (replicate outer 0))
-      ∙ ap (λ b. bytes ++ (line ++ b)) (replicate-append-replicate inner outer 0 ∙ ap (λ n. replicate n 0) sum)
+      let outer = countPlace - (start + slotSize) in
+      let on = slots-more telegrams telegram in
+      let total : length (slotsOf more) ≡ start + slotSize =
+      ap length on ∙ omega (arith, length-append bytes (slotOf telegram), size, length-slot telegram short) in
+      let sum : inner + outer ≡ countPlace - start - suc (length telegram) = omega (arith, short, free) in
+      ap₂ (λ s n. s ++ replicate (countPlace - n) 0) on total
+      ∙ zeros-join bytes line inner outer
+      ∙ ap (λ n. bytes ++ (line ++ replicate n 0)) sum
 
-  kept : isKept (telegrams ++ telegram ∷ []) ≡ true
-  kept = kept-more telegrams telegram (good-kept block good) (omega (arith, how-many, free)) reads
+  more-body : bodyOf more ≡ front ++ ((count + 1) ∷ replicate 29 0)
+  more-body =
+      let total : length more ≡ count + 1 = omega (arith, length-append telegrams (telegram ∷ []), how-many) in
+      body-shape more more-kept ∙ ap₂ (λ f n. f ++ (n ∷ replicate 29 0)) more-front total
 
-  pub entered-length : length (entered block telegram) ≡ blockSize
-  entered-length = made-length (telegrams ++ telegram ∷ []) kept
+  -- so with the count it is that block up to the check
+  pub laid-body : take checkPlace (set laid countPlace (count + 1)) ≡ bodyOf more
+  laid-body =
+      ap (λ b. take checkPlace (set b countPlace (count + 1))) laid-shape
+      ∙ counted front last count (count + 1) front-length
+      ∙ sym more-body
 
-  pub body-again : take checkPlace (set (front ++ (count ∷ (replicate 29 0 ++ last))) countPlace (count + 1)) ≡ bodyOf (telegrams ++ telegram ∷ [])
-  body-again =
-      let more : length (telegrams ++ telegram ∷ []) ≡ count + 1 = omega (arith, length-append telegrams (telegram ∷ []), how-many) in
-      let rest : List ℕ = (count + 1) ∷ (replicate 29 0 ++ last) in
-      let whole : checkPlace ≡ length front + 30 = omega (arith, front-length) in
-      ap (take checkPlace) (set-at front count (replicate 29 0 ++ last) (count + 1) countPlace front-length)
-      ∙ ap (λ n. take n (front ++ rest)) whole
-      ∙ take-append-add front rest 30
-      ∙ ap (λ z. front ++ ((count + 1) ∷ z)) (take-at (replicate 29 0) last 29 (length-replicate {A = ℕ} 29 0))
-      ∙ sym (body-shape (telegrams ++ telegram ∷ []) (kept-count _ kept) (kept-short _ kept) ∙ ap₂ (λ f n. f ++ (n ∷ replicate 29 0)) slots-again more)
-
-  -- The same by what the code does: the part behind the used slots is lent, and comes back with the telegram laid into it.
-  module _ (slot : ℕ) (part : List ℕ) (at : slot ≡ count)
-      (laid : part ≡ line ++ drop (suc (length telegram)) (take (length block - slotSize * slot) (drop (slotSize * slot) block))) where
-    abbrev back : List ℕ
-    back = putMid (slotSize * slot) (length block - slotSize * slot) block part
-
-    come-back : back ≡ front ++ (count ∷ (replicate 29 0 ++ last))
-    come-back =
-        let long = good-length block good in
-        let there : slotSize * slot ≡ min (slotSize * slot) (length block) = omega (arith, at, free, long) in
-        tail-back (slotSize * slot) block (slotSize * slot) part there
-        ∙ ap (λ p. take (slotSize * slot) block ++ p) (laid ∙ ap (λ b. line ++ drop (suc (length telegram)) b) (tail-lent (slotSize * slot) block (slotSize * slot) there))
-        ∙ ap (λ n. take (slotSize * n) block ++ (line ++ drop (suc (length telegram)) (drop (slotSize * n) block))) at
-        ∙ laid-in
-
-    pub back-length : length back ≡ blockSize
-    back-length =
-        ap length come-back
-        ∙ omega (arith, length-append front (count ∷ (replicate 29 0 ++ last)), length-append (replicate 29 0) last, length-replicate {A = ℕ} 29 0, front-length)
-
-    pub sealed-again : sealed (take checkPlace (set back countPlace (slot + 1))) ≡ entered block telegram
-    sealed-again =
-        ap₂ (λ b n. sealed (take checkPlace (set b countPlace (n + 1)))) come-back at ∙ ap sealed body-again
+  -- and only the bytes of the slot, the count and the check change
+  pub entered-byte : (at : ℕ) → Beside at start slotSize → at < checkPlace → (at ≡ countPlace → ⊥)
+      → getD (entered block telegram) at 0 ≡ getD block at 0
+  unfolding sealed
+  entered-byte at apart unchecked uncounted =
+      List·getD-append (bodyOf more) (lowFirst (checkOf (bodyOf more))) 0 at (omega (arith, body-length more more-kept))
+      ∙ ap (λ body. getD body at 0) (sym laid-body)
+      ∙ getD-take checkPlace (set laid countPlace (count + 1)) at 0 unchecked
+      ∙ getD-set-other laid countPlace at (count + 1) 0 uncounted
+      ∙ ap (λ b. getD b at 0) as-put
+      ∙ put-byte start (start + suc (length telegram)) line block refl fits at
+      (⊎-elim inl (λ past. inr (omega (arith, past, short))) apart)

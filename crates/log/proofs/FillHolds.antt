@@ -11,7 +11,8 @@ use Rattle.log.specs.Block.{slots}
 use Rattle.log.specs.Good.{readsWell, allReadWell}
 use Rattle.log.specs.Add.{placeAt, placeFor}
 use Rattle.log.specs.OfTheLog.{addAll, placesFrom, AddsFillZeroedBlocksInOrder}
-use Rattle.log.proofs.FillLaws.{packed, all-more, zeroed-packed, no-place, add-packed}
+use Rattle.log.proofs.BlockLaws.{all-more}
+use Rattle.log.proofs.FillLaws.{packed, zeroed-packed, no-place, add-packed}
 
 -- telegrams behind those that a region holds
 fills : (blocks : ℕ) (held telegrams : List (List ℕ)) → allReadWell held ≡ true → allReadWell telegrams ≡ true

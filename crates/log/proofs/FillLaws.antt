@@ -6,21 +6,21 @@ use mathlib.Core.Logic.{⊎-elim}
 use Prim.Native.Nat.{ℕ, zero, suc, _+_, _*_, _%_, _/_, _≤_, _<_}
 use native.Mathlib.Nat.{zero-add}
 use native.Mathlib.Omega.{arith}
-use lib.ListN.{length, take, drop, replicate, length-append, length-take, length-drop, replicate-append-replicate, drop-of-length-le}
+use lib.ListN.{length, take, drop, replicate, length-append, length-take, length-drop}
+use lib.ListN.{replicate-append-replicate, drop-of-length-le}
 use lib.Seq.{take-all, take-at, drop-at, take-append-le, drop-append-le, take-append-add, drop-append-add, length-take-le}
-use borrow.Author.Tests.{lt-ltb, le-ltb, le-leb, eq-eqb}
-use Rattle.refusals.specs.Refusals.{Outcome, done, refused, after}
-use Rattle.refusals.proofs.Laws.{both}
-use Rattle.record.specs.declared.Record.{Record}
-use Rattle.telegram.specs.Reading.{readOf}
+use borrow.Author.Tests.{lt-ltb, le-ltb, eq-eqb}
+use Rattle.refusals.specs.Refusals.{done, refused}
 use Rattle.log.specs.declared.Place.{Place}
 use Rattle.log.specs.Block.{slots, blockSize, blockOf}
-use Rattle.log.specs.Good.{countIn, telegramsOf, isDone, readsWell, allReadWell, isKept, isGood}
+use Rattle.log.specs.Good.{countIn, telegramsOf, readsWell, allReadWell, isKept, isGood}
 use Rattle.log.specs.Region.{blocksFrom}
-use Rattle.log.specs.Add.{placeAt, someUsed, freeBehindUsed, placeIn, placeFor, blockAt, withBlock, entered, regionAfter, addOf}
+use Rattle.log.specs.Add.{placeAt, someUsed, freeBehindUsed, placeIn, placeFor, blockAt, withBlock, entered, addOf}
+use Rattle.log.proofs.EitherLaws.{lt-or-le}
 use Rattle.log.proofs.PlaceLaws.{none-used, place-whole}
-use Rattle.log.proofs.BlockLaws.{none-kept, made-length, made-count, made-telegrams, made-good, zeroed-made}
-use Rattle.log.proofs.AddLaws.{lt-or-le}
+use Rattle.log.proofs.BlockLaws.{all-take, all-drop, kept-by, none-kept, zeroed-made}
+use Rattle.log.proofs.BlockLaws.{made-length, made-count, made-telegrams, made-good}
+use Rattle.log.proofs.AddLaws.{add-is, reads-place}
 
 -- so many blocks that hold the telegrams in order, as many as they have slots for
 pub packed : ℕ → List (List ℕ) → List ℕ
@@ -31,32 +31,10 @@ abbrev packedBlocks : ℕ → List (List ℕ) → List (List ℕ)
 packedBlocks zero telegrams = []
 packedBlocks (suc blocks) telegrams = blockOf (take slots telegrams) ∷ packedBlocks blocks (drop slots telegrams)
 
--- telegrams that read well, part by part
-all-take : (n : ℕ) (telegrams : List (List ℕ)) → allReadWell telegrams ≡ true → allReadWell (take n telegrams) ≡ true
-all-take zero telegrams all = refl
-all-take (suc n) [] all = refl
-all-take (suc n) (telegram ∷ telegrams) all =
-    let parts = both (readsWell telegram) (allReadWell telegrams) all in
-    rw (parts .0) (all-take n telegrams (parts .1))
-
-all-drop : (n : ℕ) (telegrams : List (List ℕ)) → allReadWell telegrams ≡ true → allReadWell (drop n telegrams) ≡ true
-all-drop zero telegrams all = all
-all-drop (suc n) [] all = refl
-all-drop (suc n) (telegram ∷ telegrams) all =
-    all-drop n telegrams (both (readsWell telegram) (allReadWell telegrams) all .1)
-
-pub all-more : (telegrams more : List (List ℕ)) → allReadWell telegrams ≡ true → allReadWell more ≡ true
-    → allReadWell (telegrams ++ more) ≡ true
-all-more [] more all all-too = all-too
-all-more (telegram ∷ telegrams) more all all-too =
-    let parts = both (readsWell telegram) (allReadWell telegrams) all in
-    rw (parts .0) (all-more telegrams more (parts .1) all-too)
-
--- the first of them make a block
+-- the first telegrams make a block
 first-kept : (telegrams : List (List ℕ)) → allReadWell telegrams ≡ true → isKept (take slots telegrams) ≡ true
-unfolding isKept
 first-kept telegrams all =
-    rw (le-leb (length (take slots telegrams)) slots (omega (arith, length-take slots telegrams))) (all-take slots telegrams all)
+    kept-by (take slots telegrams) (omega (arith, length-take slots telegrams)) (all-take slots telegrams all)
 
 first-length : (telegrams : List (List ℕ)) → allReadWell telegrams ≡ true → length (blockOf (take slots telegrams)) ≡ blockSize
 first-length telegrams all = made-length (take slots telegrams) (first-kept telegrams all)
@@ -245,14 +223,6 @@ packed-more (suc blocks) telegrams telegram all room =
     ∙ sym (λ i. blockOf (here i) ++ packed blocks (on i)))
     (lt-or-le (length telegrams) slots)
 
-reads-place : (region telegram : List ℕ) → readsWell telegram ≡ true → placeFor region telegram ≡ placeIn region
-unfolding placeFor readsWell
-reads-place region telegram = go (readOf true telegram)
-  where
-    go : (o : Outcome Record) → isDone o ≡ true → after o (λ rec. placeIn region) ≡ placeIn region
-    go (done rec) e = refl
-    go (refused n) e = let z : _≡_ {A = ℕ} 0 1 = cc in absurd (omega arith)
-
 -- An add into such a region.
 module _ (blocks : ℕ) (telegrams : List (List ℕ)) (telegram : List ℕ) (all : allReadWell telegrams ≡ true)
     (reads : readsWell telegram ≡ true) where
@@ -272,8 +242,7 @@ module _ (blocks : ℕ) (telegrams : List (List ℕ)) (telegram : List ℕ) (all
   pub add-packed : length telegrams < slots * blocks
       → addOf (packed blocks telegrams) telegram
       ≡ (done (placeAt (length telegrams / slots) (length telegrams % slots)), packed blocks (telegrams ++ telegram ∷ []))
-  unfolding addOf
   add-packed room =
-      let place = placeAt (length telegrams / slots) (length telegrams % slots) in
-      ap (λ answer. (answer, regionAfter answer (packed blocks telegrams) telegram)) (next-place room)
-      ∙ ap (λ left. (done place, left)) (packed-more blocks telegrams telegram all room)
+      add-is (packed blocks telegrams) telegram (next-place room)
+      ∙ ap (λ left. (done (placeAt (length telegrams / slots) (length telegrams % slots)), left))
+      (packed-more blocks telegrams telegram all room)

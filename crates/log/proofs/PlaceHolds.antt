@@ -1,8 +1,8 @@
 -- Document 02 c)'s sentences on verify and on the place of an add hold. Assumes nothing.
 use mathlib.Core.Path.{_≡_, refl, ap, ap₂, subst, sym, _∙_}
-use mathlib.Core.Bool.{Bool, true, false, _&&_}
-use mathlib.Core.List.{List, [], _∷_}
-use Prim.Native.Nat.{ℕ, zero, suc, _+_, _<_}
+use mathlib.Core.Bool.{true, _&&_}
+use mathlib.Core.List.{List, []}
+use Prim.Native.Nat.{ℕ, _+_, _<_}
 use native.Mathlib.Nat.{zero-add}
 use native.Mathlib.Omega.{arith}
 use lib.ListN.{length, getD}
@@ -10,37 +10,18 @@ use borrow.Author.Tests.{ltb-true, lt-ltb}
 use Rattle.refusals.specs.Refusals.{Outcome, done, refused}
 use Rattle.refusals.proofs.Laws.{both}
 use Rattle.log.specs.declared.Place.{Place}
-use Rattle.log.specs.declared.verify.Verified.the-variants.{AllGood, Bad}
+use Rattle.log.specs.declared.verify.Verified.the-variants.{Bad}
 use Rattle.log.specs.Block.{slots}
 use Rattle.log.specs.Good.{countIn, isGood}
-use Rattle.log.specs.Region.{blocksFrom, isWhole}
-use Rattle.log.specs.Verify.{firstBad}
+use Rattle.log.specs.Region.{blocksFrom}
 use Rattle.log.specs.Add.{placeAt, blockAt}
 use Rattle.log.specs.OfTheLog.{blocksIn, UsedBehind, FirstFreeBehindTheLastUsed}
 use Rattle.log.specs.OfTheLog.{VerifyNamesTheFirstBadBlock, NoBlocksAreGoodAndFull}
 use Rattle.log.specs.OfTheLog.{AnAddGoesBehindTheLastUsed, ThatPlaceIsTaken, NoSuchPlaceIsRefused}
 use Rattle.log.proofs.RegionLaws.{blocks-length, blocks-at}
-use Rattle.log.proofs.VerifyLaws.{verify-whole, verify-broken}
-use Rattle.log.proofs.PlaceLaws.{place-whole, place-broken}
+use Rattle.log.proofs.VerifyLaws.{verify-whole, verify-broken, names-first, passes-all}
+use Rattle.log.proofs.PlaceLaws.{place-whole, place-broken, placed-whole}
 use Rattle.log.proofs.ChoiceLaws.{isFree, isUsed, UsedAfter, Chosen, Answered, in-block, nowhere, answer-is, one-chosen}
-
--- verify, over the blocks
-names-first : (number k : ℕ) (blocks : List (List ℕ)) → k < length blocks → isGood (getD blocks k []) ≡ false
-    → ((before : ℕ) → before < k → isGood (getD blocks before []) ≡ true) → firstBad number blocks ≡ Bad 20 (number + k)
-names-first number k [] there bad good = absurd (omega arith)
-names-first number zero (block ∷ blocks) there bad good =
-    let here : number ≡ number + 0 = omega arith in
-    rw bad (ap (Bad 20) here)
-names-first number (suc k) (block ∷ blocks) there bad good =
-    let next : suc number + k ≡ number + suc k = omega arith in
-    rw (good 0 (omega arith))
-    (names-first (suc number) k blocks (omega arith) bad (λ before h. good (suc before) (omega arith)) ∙ ap (Bad 20) next)
-
-passes-all : (number : ℕ) (blocks : List (List ℕ)) → ((k : ℕ) → k < length blocks → isGood (getD blocks k []) ≡ true)
-    → firstBad number blocks ≡ AllGood
-passes-all number [] good = refl
-passes-all number (block ∷ blocks) good =
-    rw (good 0 (omega arith)) (passes-all (suc number) blocks (λ k h. good (suc k) (omega arith)))
 
 -- The blocks of a region, by their numbers.
 module _ (region : List ℕ) where
@@ -60,7 +41,13 @@ module _ (region : List ℕ) where
   used-behind : {number : ℕ} → UsedAfter all-blocks number → UsedBehind region number
   used-behind u =
       let parts = both _ _ (ap isUsed (sym (is-at (u .block) (in-region (u .there)))) ∙ u .used) in
-      record { block = u .block; behind = u .behind; there = in-region (u .there); good = parts .0; used = ltb-true _ _ (parts .1) }
+      record {
+        block = u .block;
+        behind = u .behind;
+        there = in-region (u .there);
+        good = parts .0;
+        used = ltb-true _ _ (parts .1);
+      }
 
   used-after : {number : ℕ} → UsedBehind region number → UsedAfter all-blocks number
   used-after u =
@@ -128,7 +115,8 @@ pub no-blocks-are-good-and-full : NoBlocksAreGoodAndFull
 no-blocks-are-good-and-full = (verify-whole [] refl, place-whole [] refl)
 
 pub an-add-goes-behind-the-last-used : AnAddGoesBehindTheLastUsed
-an-add-goes-behind-the-last-used region place found = go (isWhole region) refl
+an-add-goes-behind-the-last-used region place found =
+    by (answer-is 0 (all-blocks region)) (sym (place-whole region (placed-whole region place found)) ∙ found)
   where
     by : {answer : Outcome Place} → Answered (Chosen (all-blocks region)) 0 (all-blocks region) answer → answer ≡ done place
         → FirstFreeBehindTheLastUsed region place
@@ -138,10 +126,6 @@ an-add-goes-behind-the-last-used region place found = go (isWhole region) refl
         (sym (block-place region k (in-region region (is .there))) ∙ is-place)
         (place-described region k is)
     by (nowhere none e) found = let z : _≡_ {A = ℕ} 0 1 = cc in absurd (omega arith)
-
-    go : (t : Bool) → isWhole region ≡ t → FirstFreeBehindTheLastUsed region place
-    go true whole = by (answer-is 0 (all-blocks region)) (sym (place-whole region whole) ∙ found)
-    go false broken = let e = place-broken region broken in let z : _≡_ {A = ℕ} 0 1 = cc in absurd (omega arith)
 
 pub that-place-is-taken : ThatPlaceIsTaken
 that-place-is-taken region place whole is = place-whole region whole ∙ by (answer-is 0 (all-blocks region))

@@ -1,12 +1,12 @@
 -- Laws of the search for a place: one pass over the blocks finds what the definition says. Assumes nothing.
 use mathlib.Core.Path.{_≡_, refl, ap, sym, _∙_}
-use mathlib.Core.Bool.{Bool, true, false, cond, _&&_, _||_}
+use mathlib.Core.Bool.{Bool, true, false, cond, _&&_, _||_, not-eq-not}
 use mathlib.Core.List.{List, [], _∷_}
-use Prim.Native.Nat.{ℕ, zero, suc, _+_, _*_, _-_, _/_, _≤_, _<_}
+use Prim.Native.Nat.{ℕ, zero, suc, _+_, _*_, _-_, _≤_, _<_}
 use native.Mathlib.Numerals.{add-one}
 use native.Mathlib.Omega.{arith}
 use lib.Dec.{eqb, ltb, eqb·suc-zero}
-use lib.ListN.{length, take, drop}
+use lib.ListN.{take, drop}
 use borrow.Author.Tests.{lt-ltb}
 use Rattle.refusals.specs.Refusals.{Outcome, done, refused, after}
 use Rattle.log.specs.declared.Place.{Place}
@@ -14,8 +14,9 @@ use Rattle.log.specs.Block.{slots, blockSize}
 use Rattle.log.specs.Good.{countIn, isGood}
 use Rattle.log.specs.Region.{blocksFrom, isWhole}
 use Rattle.log.specs.Add.{placeAt, firstFree, someUsed, freeBehindUsed, blockAt, placeIn}
+use Rattle.log.specs.OfTheLog.{blocksIn}
 use Rattle.log.specs.Tests.{orElse, placeWith, placeThen}
-use Rattle.log.proofs.RegionLaws.{block-part, blocks-drop, blocks-turn, blocks-end, whole-blocks, broken-blocks}
+use Rattle.log.proofs.RegionLaws.{block-part, blocks-start, blocks-turn, blocks-end, whole-blocks, broken-blocks}
 
 -- where no slot is used, the search behind the last used one is the search from the front
 pub none-used : (number : ℕ) (blocks : List (List ℕ)) → someUsed blocks ≡ false
@@ -32,14 +33,15 @@ none-used number (block ∷ blocks) none = go (isGood block && ltb 0 (countIn bl
 abbrev foundWith : Outcome Place → ℕ → Bool → ℕ → Outcome Place
 foundWith found number good count =
     cond good
-    (cond (eqb count 0) (orElse found (done (placeAt number 0))) (cond (ltb count slots) (done (placeAt number count)) (refused 21)))
+    (cond (eqb count 0) (orElse found (done (placeAt number 0)))
+    (cond (ltb count slots) (done (placeAt number count)) (refused 21)))
     found
 
 abbrev freeFrom : ℕ → Bool → ℕ → Outcome Place → Outcome Place
 freeFrom number good count later = cond (good && ltb count slots) (done (placeAt number count)) later
 
--- what the search finds with it is what the definition says of it: `some` is whether a slot is used further behind, `behind` what is
--- found there, `later` the first free slot there
+-- what the search finds with it is what the definition says of it: `some` is whether a slot is used further behind, `behind` what
+-- is found there, `later` the first free slot there
 turn : (found : Outcome Place) (number : ℕ) (good : Bool) (count : ℕ) (some : Bool) (behind later : Outcome Place)
     → cond some behind (orElse (foundWith found number good count) later)
     ≡ cond ((good && ltb 0 count) || some)
@@ -93,7 +95,7 @@ search-is number blocks = search-goes (refused 21) number blocks refl ∙ go (so
 
 -- whole or not
 pub place-whole : (region : List ℕ) → isWhole region ≡ true
-    → placeIn region ≡ freeBehindUsed 0 (blocksFrom (length region / blockSize) region)
+    → placeIn region ≡ freeBehindUsed 0 (blocksFrom (blocksIn region) region)
 unfolding placeIn
 place-whole region whole = ap (λ blocks. after blocks (freeBehindUsed 0)) (whole-blocks region whole)
 
@@ -101,12 +103,20 @@ pub place-broken : (region : List ℕ) → isWhole region ≡ false → placeIn 
 unfolding placeIn
 place-broken region broken = ap (λ blocks. after blocks (freeBehindUsed 0)) (broken-blocks region broken)
 
+-- so a region with a place is whole
+pub placed-whole : (region : List ℕ) (place : Place) → placeIn region ≡ done place → isWhole region ≡ true
+placed-whole region place placed = not-eq-not {a = isWhole region} {b = true} .0 go
+  where
+    go : isWhole region ≡ false → ⊥
+    go broken = let none = place-broken region broken in let z : _≡_ {A = ℕ} 0 1 = cc in omega arith
+
 -- the search over a region, block by block: its start, a turn with what is found with one block more, and its end
 pub search-starts : (region : List ℕ) → isWhole region ≡ true
-    → placeThen (refused 21) 0 (blocksFrom (length region / blockSize - 0) (drop (blockSize * 0) region)) ≡ placeIn region
+    → placeThen (refused 21) 0 (blocksFrom (blocksIn region - 0) (drop (blockSize * 0) region)) ≡ placeIn region
 search-starts region whole =
-    ap (placeThen (refused 21) 0) (sym (blocks-drop (length region / blockSize) 0 region))
-    ∙ search-is 0 (blocksFrom (length region / blockSize) region) ∙ sym (place-whole region whole)
+    ap (placeThen (refused 21) 0) (blocks-start (blocksIn region) region)
+    ∙ search-is 0 (blocksFrom (blocksIn region) region)
+    ∙ sym (place-whole region whole)
 
 pub search-turn : (found found′ : Outcome Place) (n at : ℕ) (region : List ℕ) → at < n
     → found′ ≡ placeWith found at (take (blockSize * at + blockSize - blockSize * at) (drop (blockSize * at) region))

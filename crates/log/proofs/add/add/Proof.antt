@@ -1,10 +1,10 @@
 -- `log::add::add` meets its contract.
-use mathlib.Core.Path.{_≡_, refl, ap, ap₂, sym, _∙_}
+use mathlib.Core.Path.{_≡_, ap, ap₂, sym, _∙_}
+use mathlib.Core.Bool.{true}
 use borrow.Author.Needs.{needs}
 use Rattle.record.specs.Answers.{recordAnswer}
 use Rattle.log.specs.Good.{isDone, readsWell}
-use Rattle.log.specs.Add.{placeFor, addOf}
-use Rattle.log.proofs.PutLaws.{own-refusal, own-done}
+use Rattle.log.proofs.AddLaws.{add-is, own-refusal, reads-place}
 use Rattle.log.proofs.add.add.Statement.{statement}
 use Rattle.log.proofs.add.add.Tie as tie
 
@@ -17,20 +17,29 @@ enum-known-number c = search needs
 enum-told : tie.Need-enum-told
 enum-told c = search needs
 
-add-good-requires : tie.Need-add-good-requires
+-- what was read well
+reads : (c : tie.After-enum-told) → readsWell (c .before .before .before .before .before .args .telegram .now) ≡ true
 unfolding readsWell
-add-good-requires c κs = sym (ap (λ r. isDone (recordAnswer r)) (sym (c .before .enum-told .given .1)) ∙ ap isDone (c .before .before .before .read .ensures))
+reads c = sym (ap isDone (c .before .before .read .ensures)) ∙ ap (λ r. isDone (recordAnswer r)) (c .enum-told .given .1)
+
+add-good-requires : tie.Need-add-good-requires
+add-good-requires c κs = reads (c .before)
 
 returns : tie.Need-returns
-returns c = own-refusal (c .before .before .before .before .before .before .args .region .now) (c .before .before .before .before .before .before .args .telegram .now) (sym (c .before .before .before .read .ensures) ∙ ap recordAnswer (c .before .number .given .1))
+returns c =
+    let a = c .before .before .before .before .before .before .args in
+    let refusal = sym (c .before .before .before .read .ensures) ∙ ap recordAnswer (c .before .number .given .1) in
+    add-is (a .region .now) (a .telegram .now) (own-refusal (a .region .now) (a .telegram .now) refusal)
 
 same-length : tie.Need-same-length
 same-length c = search needs
 
 returns-2 : tie.Need-returns-2
 returns-2 c =
-    own-done (c .before .before .before .before .before .before .before .before .before .args .region .now) (c .before .before .before .before .before .before .before .before .before .args .telegram .now) (sym (c .before .before .before .before .before .before .read .ensures) ∙ ap recordAnswer (c .before .before .before .before .enum-told .given .1))
-    ∙ ap₂ (λ o r. (o, r)) (sym (c .before .before .add-good .ensures .0)) (sym (c .before .before .add-good .ensures .1))
+    let a = c .before .before .before .before .before .before .before .before .before .args in
+    let added = c .before .before .add-good .ensures in
+    let place = reads-place (a .region .now) (a .telegram .now) (reads (c .before .before .before .before)) in
+    add-is (a .region .now) (a .telegram .now) place ∙ ap₂ (λ o r. (o, r)) (sym (added .0)) (sym (added .1))
 
 pub add-spec : {M : Type 1} → statement M
 add-spec =

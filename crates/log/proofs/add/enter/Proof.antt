@@ -1,34 +1,68 @@
 -- `log::add::enter` meets its contract.
-use mathlib.Core.Path.{_≡_, refl, ap, sym, _∙_}
-use Prim.Native.Nat.{_+_, _*_, _-_}
+use mathlib.Core.Path.{_≡_, ap, sym, _∙_}
+use mathlib.Core.List.{List}
+use Prim.Native.Nat.{ℕ, _+_, _*_, _-_, _<_}
 use native.Mathlib.Omega.{arith}
 use lib.ListN.{length, take, drop, set, length-set, length-take, length-drop}
 use borrow.Author.Needs.{needs}
 use borrow.Rule.Slice.PartMut.{putMid}
-use Rattle.log.specs.Block.{slotSize, countPlace}
+use Rattle.log.specs.Block.{slots, slotSize, countPlace, checkPlace, blockSize, sealed}
+use Rattle.log.specs.Good.{countIn}
+use Rattle.log.specs.Add.{entered}
 use Rattle.log.proofs.BlockLaws.{reads-short, good-length}
-use Rattle.log.proofs.EnterLaws.{entered-length, back-length, sealed-again}
+use Rattle.log.proofs.EnterLaws.{entered-length}
+use Rattle.log.proofs.LayLaws.{back-length, sealed-again}
 use Rattle.log.proofs.add.enter.Statement.{statement}
 use Rattle.log.proofs.add.enter.Tie as tie
 
 mul-start : tie.Need-mul-start
 mul-start c = search needs
 
+-- what is known of the block
+long : (c : tie.Start) → length (c .args .block .now) ≡ blockSize
+long c = good-length (c .args .block .now) (c .pre .0)
+
+free : (c : tie.Start) → countIn (c .args .block .now) < slots
+free c = omega (arith, c .pre .1, c .pre .2)
+
 sub-lay : tie.Need-sub-lay
-sub-lay c = omega (arith, c .before .before .pre .2, good-length (c .before .before .args .block .now) (c .before .before .pre .0))
+sub-lay c = omega (arith, c .before .before .pre .2, long (c .before .before))
 
 part-lay-start : tie.Need-part-lay-start
-part-lay-start c = omega (arith, c .before .before .pre .2, good-length (c .before .before .args .block .now) (c .before .before .pre .0))
+part-lay-start c = omega (arith, c .before .before .pre .2, long (c .before .before))
 
 part-lay-end : tie.Need-part-lay-end
 part-lay-end c = search needs
 
 lay-requires : tie.Need-lay-requires
 lay-requires c κs =
-    let block = c .before .before .before .args .block .now in
-    let start = slotSize * c .before .before .before .args .slot in
-    let short = reads-short (c .before .before .before .args .telegram .now) (c .before .before .before .pre .3) in
-    (omega (arith, length-take (length block - start) (drop start block), length-drop start block, short, c .before .before .before .pre .2, good-length (c .before .before .before .args .block .now) (c .before .before .before .pre .0)), omega (arith, short))
+    let known = c .before .before .before in
+    let block = known .args .block .now in
+    let start = slotSize * known .args .slot in
+    let short = reads-short (known .args .telegram .now) (known .pre .3) in
+    let size = length-take (length block - start) (drop start block) in
+    (omega (arith, size, length-drop start block, short, known .pre .2, long known), omega (arith, short))
+
+-- the block come back with the telegram laid into it
+abbrev back : tie.After-lay → List ℕ
+back c =
+    let block = c .before .before .before .before .args .block .now in
+    let start = slotSize * c .before .before .before .before .args .slot in
+    putMid start (length block - start) block (c .lay .last .0)
+
+back-long : (c : tie.After-lay) → length (back c) ≡ blockSize
+back-long c =
+    let known = c .before .before .before .before in
+    back-length (known .args .block .now) (known .args .telegram .now) (known .pre .0) (free known) (known .pre .3)
+    (known .args .slot) (c .lay .last .0) (known .pre .1) (c .lay .ensures)
+
+is-entered : (c : tie.After-lay)
+    → let a = c .before .before .before .before .args in
+    sealed (take checkPlace (set (back c) countPlace (a .slot + 1))) ≡ entered (a .block .now) (a .telegram .now)
+is-entered c =
+    let known = c .before .before .before .before in
+    sealed-again (known .args .block .now) (known .args .telegram .now) (known .pre .0) (free known) (known .pre .3)
+    (known .args .slot) (c .lay .last .0) (known .pre .1) (c .lay .ensures)
 
 cast-block : tie.Need-cast-block
 cast-block c = search needs
@@ -37,23 +71,23 @@ add-block : tie.Need-add-block
 add-block c = search needs
 
 slice-write-block : tie.Need-slice-write-block
-slice-write-block c = omega (arith, back-length (c .before .before .before .before .before .before .args .block .now) (c .before .before .before .before .before .before .args .telegram .now) (c .before .before .before .before .before .before .pre .0) (omega (arith, c .before .before .before .before .before .before .pre .1, c .before .before .before .before .before .before .pre .2)) (c .before .before .before .before .before .before .pre .3) (c .before .before .before .before .before .before .args .slot) (c .before .before .lay .last .0) (c .before .before .before .before .before .before .pre .1) (c .before .before .lay .ensures))
+slice-write-block c = omega (arith, back-long (c .before .before))
 
 seal-requires : tie.Need-seal-requires
 seal-requires c κs =
-    let block = c .before .before .before .before .before .before .before .args .block .now in
-    let start = slotSize * c .before .before .before .before .before .before .before .args .slot in
-    length-set (putMid start (length block - start) block (c .before .before .before .lay .last .0)) countPlace (c .before .before .before .before .before .before .before .args .slot + 1)
-    ∙ back-length (c .before .before .before .before .before .before .before .args .block .now) (c .before .before .before .before .before .before .before .args .telegram .now) (c .before .before .before .before .before .before .before .pre .0) (omega (arith, c .before .before .before .before .before .before .before .pre .1, c .before .before .before .before .before .before .before .pre .2)) (c .before .before .before .before .before .before .before .pre .3) (c .before .before .before .before .before .before .before .args .slot) (c .before .before .before .lay .last .0) (c .before .before .before .before .before .before .before .pre .1) (c .before .before .before .lay .ensures)
+    let laid = c .before .before .before in
+    length-set (back laid) countPlace (laid .before .before .before .before .args .slot + 1) ∙ back-long laid
 
 same-length : tie.Need-same-length
 same-length c =
-    ap length (c .before .before .seal .ensures ∙ sealed-again (c .before .before .before .before .before .before .before .before .before .before .args .block .now) (c .before .before .before .before .before .before .before .before .before .before .args .telegram .now) (c .before .before .before .before .before .before .before .before .before .before .pre .0) (omega (arith, c .before .before .before .before .before .before .before .before .before .before .pre .1, c .before .before .before .before .before .before .before .before .before .before .pre .2)) (c .before .before .before .before .before .before .before .before .before .before .pre .3) (c .before .before .before .before .before .before .before .before .before .before .args .slot) (c .before .before .before .before .before .before .lay .last .0) (c .before .before .before .before .before .before .before .before .before .before .pre .1) (c .before .before .before .before .before .before .lay .ensures))
-    ∙ entered-length (c .before .before .before .before .before .before .before .before .before .before .args .block .now) (c .before .before .before .before .before .before .before .before .before .before .args .telegram .now) (c .before .before .before .before .before .before .before .before .before .before .pre .0) (omega (arith, c .before .before .before .before .before .before .before .before .before .before .pre .1, c .before .before .before .before .before .before .before .before .before .before .pre .2)) (c .before .before .before .before .before .before .before .before .before .before .pre .3)
-    ∙ sym (good-length (c .before .before .before .before .before .before .before .before .before .before .args .block .now) (c .before .before .before .before .before .before .before .before .before .before .pre .0))
+    let known = c .before .before .before .before .before .before .before .before .before .before in
+    let a = known .args in
+    ap length (c .before .before .seal .ensures ∙ is-entered (c .before .before .before .before .before .before))
+    ∙ entered-length (a .block .now) (a .telegram .now) (known .pre .0) (free known) (known .pre .3)
+    ∙ sym (long known)
 
 returns : tie.Need-returns
-returns c = c .before .before .seal .ensures ∙ sealed-again (c .before .before .before .before .before .before .before .before .before .before .args .block .now) (c .before .before .before .before .before .before .before .before .before .before .args .telegram .now) (c .before .before .before .before .before .before .before .before .before .before .pre .0) (omega (arith, c .before .before .before .before .before .before .before .before .before .before .pre .1, c .before .before .before .before .before .before .before .before .before .before .pre .2)) (c .before .before .before .before .before .before .before .before .before .before .pre .3) (c .before .before .before .before .before .before .before .before .before .before .args .slot) (c .before .before .before .before .before .before .lay .last .0) (c .before .before .before .before .before .before .before .before .before .before .pre .1) (c .before .before .before .before .before .before .lay .ensures)
+returns c = c .before .before .seal .ensures ∙ is-entered (c .before .before .before .before .before .before)
 
 pub enter-spec : {M : Type 1} → statement M
 enter-spec =

@@ -1,12 +1,11 @@
 -- `log::block::is_zero` meets its contract. The loop's invariant: what is left is zero exactly when all is.
 use native.Mathlib.Omega.{arith}
-use mathlib.Core.Path.{_≡_, refl, ap, sym, _∙_}
-use mathlib.Core.Bool.{_&&_}
-use Prim.Native.Nat.{_-_, _+_}
-use lib.ListN.{length, drop}
+use mathlib.Core.Path.{_≡_, refl, sym, _∙_}
+use Prim.Native.Nat.{_-_}
+use lib.ListN.{drop}
 use borrow.Author.Tests.{eq-eqb, ne-eqb}
 use Rattle.log.specs.Tests.{allZero}
-use Rattle.log.proofs.SameLaws.{zero-step, zero-end}
+use Rattle.log.proofs.SameLaws.{zero-turn, zero-end}
 use Rattle.log.proofs.block.is_zero.Statement.{statement}
 use Rattle.log.proofs.block.is_zero.Tie as tie
 
@@ -25,9 +24,7 @@ shared-slice-read-if1 c = omega arith
 returns : tie.Need-returns Inv-loop μ-loop
 returns c =
     let bytes = c .before .before .before .before .args .bytes .now in
-    let at = c .before .before .before .loop .at in
-    ap (λ z. z && allZero (drop (at + 1) bytes)) (sym (ne-eqb _ _ (c .if1 .taken)))
-    ∙ sym (zero-step bytes at (c .before .before .loop-test .taken))
+    sym (zero-turn bytes _ (c .before .before .loop-test .taken) (ne-eqb _ _ (c .if1 .taken)))
     ∙ c .before .before .before .loop .inv
 
 add-at : tie.Need-add-at Inv-loop μ-loop
@@ -39,9 +36,7 @@ loop-less c = omega arith
 loop-again : tie.Need-loop-again Inv-loop μ-loop
 loop-again c =
     let bytes = c .before .before .before .before .args .bytes .now in
-    let at = c .before .before .before .loop .at in
-    ap (λ z. z && allZero (drop (at + 1) bytes)) (sym (eq-eqb _ _ (c .if1 .left)))
-    ∙ sym (zero-step bytes at (c .before .before .loop-test .taken))
+    sym (zero-turn bytes _ (c .before .before .loop-test .taken) (eq-eqb _ _ (c .if1 .left)))
     ∙ c .before .before .before .loop .inv
 
 returns-2 : tie.Need-returns-2 Inv-loop μ-loop

@@ -1,5 +1,5 @@
 -- `log::block::reads_well` meets its contract.
-use mathlib.Core.Path.{_≡_, ap, sym, _∙_}
+use mathlib.Core.Path.{ap, sym, _∙_}
 use borrow.Author.Needs.{needs}
 use Rattle.record.specs.Answers.{recordAnswer}
 use Rattle.log.specs.Good.{isDone, readsWell}

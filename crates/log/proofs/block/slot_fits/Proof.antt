@@ -1,17 +1,9 @@
 -- `log::block::slot_fits` meets its contract.
-use mathlib.Core.Path.{_≡_, refl, ap, ap₂, sym, _∙_}
-use mathlib.Core.Bool.{_&&_}
-use Prim.Native.Nat.{suc, _+_, _-_}
-use native.Mathlib.Numerals.{add-one}
+use mathlib.Core.Path.{sym, _∙_}
 use native.Mathlib.Omega.{arith}
-use lib.ListN.{length, take, drop, getD, length-drop}
-use lib.Seq.{take-all}
 use borrow.Author.Needs.{needs}
 use borrow.Author.Tests.{not-true, not-false}
-use Rattle.log.specs.Block.{slotSize}
-use Rattle.log.specs.Good.{readsWell}
-use Rattle.log.specs.Tests.{allZero}
-use Rattle.log.proofs.TestLaws.{other-size, long-telegram, by-size}
+use Rattle.log.proofs.SlotLaws.{other-size, long-telegram, by-size}
 use Rattle.log.proofs.block.slot_fits.Statement.{statement}
 use Rattle.log.proofs.block.slot_fits.Tie as tie
 
@@ -46,11 +38,8 @@ reads-well-requires c κs = search needs
 returns-3 : tie.Need-returns-3
 returns-3 c =
     let slot = c .before .before .before .before .before .before .before .args .slot .now in
-    let size = getD slot 0 0 in
-    let read : size + 1 - 1 ≡ size = omega arith in
-    ap (λ r. r && allZero (drop (suc size) slot))
-    (sym (not-true _ (c .if3 .taken)) ∙ c .before .reads-well .ensures ∙ ap (λ n. readsWell (take n (drop 1 slot))) read)
-    ∙ sym (by-size slot (c .before .before .before .before .before .if1 .left) (c .before .before .before .if2 .left))
+    let bad = sym (c .before .reads-well .ensures) ∙ not-true _ (c .if3 .taken) in
+    sym (by-size slot (c .before .before .before .before .before .if1 .left) (c .before .before .before .if2 .left) ∙ rw bad)
 
 sub-is-zero : tie.Need-sub-is-zero
 sub-is-zero c = search needs
@@ -67,15 +56,9 @@ is-zero-requires c κs = search needs
 returns-4 : tie.Need-returns-4
 returns-4 c =
     let slot = c .before .before .before .before .before .before .before .before .before .args .slot .now in
-    let size = getD slot 0 0 in
-    let read : size + 1 - 1 ≡ size = omega arith in
-    let rest : take (slotSize - (size + 1)) (drop (size + 1) slot) ≡ drop (suc size) slot =
-    take-all (slotSize - (size + 1)) (drop (size + 1) slot) (omega (arith, length-drop (size + 1) slot, c .before .before .before .before .before .before .before .if1 .left)) ∙ ap (λ n. drop n slot) (add-one size) in
-    c .is-zero .ensures
-    ∙ ap₂ (λ r bytes. r && allZero bytes)
-    (sym (not-false _ (c .before .before .if3 .left)) ∙ c .before .before .before .reads-well .ensures ∙ ap (λ n. readsWell (take n (drop 1 slot))) read)
-    rest
-    ∙ sym (by-size slot (c .before .before .before .before .before .before .before .if1 .left) (c .before .before .before .before .before .if2 .left))
+    let size = c .before .before .before .before .before .before .before .if1 .left in
+    let good = sym (c .before .before .before .reads-well .ensures) ∙ not-false _ (c .before .before .if3 .left) in
+    c .is-zero .ensures ∙ sym (by-size slot size (c .before .before .before .before .before .if2 .left) ∙ rw good)
 
 pub slot-fits-spec : {M : Type 1} → statement M
 slot-fits-spec =

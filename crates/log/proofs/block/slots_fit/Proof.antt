@@ -1,14 +1,14 @@
 -- `log::block::slots_fit` meets its contract. The loop's invariant: the slots that are left fit exactly when all do.
-use mathlib.Core.Path.{_≡_, refl, ap, sym, _∙_}
-use mathlib.Core.Bool.{_&&_}
-use Prim.Native.Nat.{_+_, _*_, _-_}
+use mathlib.Core.Path.{_≡_, ap, sym, _∙_}
+use Prim.Native.Nat.{_*_, _-_}
+use native.Mathlib.Nat.{sub-zero}
 use native.Mathlib.Omega.{arith}
-use lib.ListN.{length, take, drop}
+use lib.ListN.{drop}
 use borrow.Author.Needs.{needs}
 use borrow.Author.Tests.{not-true, not-false}
 use Rattle.log.specs.Block.{slotSize}
-use Rattle.log.specs.Tests.{slotFits, slotsFit}
-use Rattle.log.proofs.TestLaws.{slot-step, slots-end}
+use Rattle.log.specs.Tests.{slotsFit}
+use Rattle.log.proofs.SlotLaws.{slots-turn, slots-end}
 use Rattle.log.proofs.block.slots_fit.Statement.{statement}
 use Rattle.log.proofs.block.slots_fit.Tie as tie
 
@@ -19,7 +19,7 @@ abbrev μ-loop : tie.MeasureT-loop
 μ-loop block count at₀ at = count - at
 
 loop-holds : tie.Need-loop-holds Inv-loop μ-loop
-loop-holds c = let all : c .before .args .count - 0 ≡ c .before .args .count = omega arith in ap (λ n. slotsFit n (c .before .args .block .now)) all
+loop-holds c = ap (λ n. slotsFit n (c .before .args .block .now)) (sub-zero (c .before .args .count))
 
 mul-start : tie.Need-mul-start Inv-loop μ-loop
 mul-start c = omega (arith, c .before .before .before .pre)
@@ -42,13 +42,8 @@ slot-fits-requires c κs = search needs
 returns : tie.Need-returns Inv-loop μ-loop
 returns c =
     let block = c .before .before .before .before .before .before .args .block .now in
-    let count = c .before .before .before .before .before .before .args .count in
-    let at = c .before .before .before .before .loop .at in
-    let one : slotSize * at + slotSize - slotSize * at ≡ slotSize = omega arith in
-    ap (λ r. r && slotsFit (count - (at + 1)) (drop (slotSize * (at + 1)) block))
-    (sym (not-true _ (c .if1 .taken)) ∙ c .before .slot-fits .ensures ∙ ap (λ n. slotFits (take n (drop (slotSize * at) block))) one)
-    ∙ sym (slot-step count at block (c .before .before .before .loop-test .taken))
-    ∙ c .before .before .before .before .loop .inv
+    let bad = sym (c .before .slot-fits .ensures) ∙ not-true _ (c .if1 .taken) in
+    sym (slots-turn _ _ block (c .before .before .before .loop-test .taken) bad) ∙ c .before .before .before .before .loop .inv
 
 add-at : tie.Need-add-at Inv-loop μ-loop
 add-at c = omega arith
@@ -59,16 +54,11 @@ loop-less c = omega arith
 loop-again : tie.Need-loop-again Inv-loop μ-loop
 loop-again c =
     let block = c .before .before .before .before .before .before .args .block .now in
-    let count = c .before .before .before .before .before .before .args .count in
-    let at = c .before .before .before .before .loop .at in
-    let one : slotSize * at + slotSize - slotSize * at ≡ slotSize = omega arith in
-    ap (λ r. r && slotsFit (count - (at + 1)) (drop (slotSize * (at + 1)) block))
-    (sym (not-false _ (c .if1 .left)) ∙ c .before .slot-fits .ensures ∙ ap (λ n. slotFits (take n (drop (slotSize * at) block))) one)
-    ∙ sym (slot-step count at block (c .before .before .before .loop-test .taken))
-    ∙ c .before .before .before .before .loop .inv
+    let good = sym (c .before .slot-fits .ensures) ∙ not-false _ (c .if1 .left) in
+    sym (slots-turn _ _ block (c .before .before .before .loop-test .taken) good) ∙ c .before .before .before .before .loop .inv
 
 returns-2 : tie.Need-returns-2 Inv-loop μ-loop
-returns-2 c = sym (slots-end (c .before .before .before .args .count) (c .before .loop .at) (c .before .before .before .args .block .now) (c .loop-test .left)) ∙ c .before .loop .inv
+returns-2 c = sym (slots-end _ _ _ (c .loop-test .left)) ∙ c .before .loop .inv
 
 pub slots-fit-spec : {M : Type 1} → statement M
 slots-fit-spec =

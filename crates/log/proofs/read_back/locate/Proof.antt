@@ -3,22 +3,25 @@ use mathlib.Core.Path.{_≡_, refl, ap, sym, _∙_}
 use Prim.Native.Nat.{_+_, _*_, _<_}
 use native.Mathlib.Omega.{arith}
 use borrow.Author.Needs.{needs}
-use borrow.Author.Tests.{not-true, not-false}
+use borrow.Author.Tests.{eq-eqb, ne-eqb, not-true, not-false}
 use Rattle.log.specs.Block.{slots}
 use Rattle.log.specs.Good.{isGood}
 use Rattle.log.specs.Add.{blockAt}
 use Rattle.log.proofs.RegionLaws.{block-part}
-use Rattle.log.proofs.ReadBackLaws.{GoodBlock, not-whole, no-such-block, bad-block, no-such-slot, is-slot, ends-inside, telegram-there}
+use Rattle.log.proofs.ReadBackLaws.{GoodBlock, not-whole, no-such-block, bad-block, no-such-slot, is-slot}
+use Rattle.log.proofs.ReadBackLaws.{ends-inside, telegram-there}
 use Rattle.log.proofs.read_back.locate.Statement.{statement}
 use Rattle.log.proofs.read_back.locate.Tie as tie
 
 returns : tie.Need-returns
-returns c = let a = c .before .before .args in (not-whole (a .region .now) (a .block) (a .slot) (c .if1 .taken), tt)
+returns c =
+    let a = c .before .before .args in
+    (sym (not-whole (a .region .now) (a .block) (a .slot) (ne-eqb _ _ (c .if1 .taken))), tt)
 
 returns-2 : tie.Need-returns-2
 returns-2 c =
     let a = c .before .before .before .args in
-    (no-such-block (a .region .now) (a .block) (a .slot) (c .before .if1 .left) (c .if2 .taken), tt)
+    (sym (no-such-block (a .region .now) (a .block) (a .slot) (eq-eqb _ _ (c .before .if1 .left)) (c .if2 .taken)), tt)
 
 mul-start : tie.Need-mul-start
 mul-start c = search needs
@@ -48,14 +51,14 @@ tested c =
 returns-3 : tie.Need-returns-3
 returns-3 c =
     let a = c .before .before .before .before .before .before .args in
-    let whole = c .before .before .before .before .if1 .left in
+    let whole = eq-eqb _ _ (c .before .before .before .before .if1 .left) in
     let there = c .before .before .before .if2 .left in
-    (bad-block (a .region .now) (a .block) (a .slot) whole there (tested (c .before) ∙ not-true _ (c .if3 .taken)), tt)
+    (sym (bad-block (a .region .now) (a .block) (a .slot) whole there (tested (c .before) ∙ not-true _ (c .if3 .taken))), tt)
 
 good-block : (c : tie.Else3)
     → let a = c .before .before .before .before .before .before .args in GoodBlock (a .region .now) (a .block)
 good-block c = record {
-  whole = c .before .before .before .before .if1 .left;
+  whole = eq-eqb _ _ (c .before .before .before .before .if1 .left);
   there = c .before .before .before .if2 .left;
   good = tested (c .before) ∙ not-false _ (c .if3 .left);
 }
@@ -74,7 +77,7 @@ cast-if4 c =
 returns-4 : tie.Need-returns-4
 returns-4 c =
     let a = c .before .before .before .before .before .before .before .before .args in
-    (no-such-slot (a .region .now) (a .block) (a .slot) (good-block (c .before .before)) (c .if4 .taken), tt)
+    (sym (no-such-slot (a .region .now) (a .block) (a .slot) (good-block (c .before .before)) (c .if4 .taken)), tt)
 
 -- a slot that is used is one of the 15
 used : (c : tie.Else4) → c .before .before .before .before .before .before .before .before .args .slot < slots
@@ -105,7 +108,7 @@ returns-5 c =
     let good = good-block (c .before .before .before) in
     let some = c .before .if4 .left in
     let inside = ends-inside (a .region .now) (a .block) (a .slot) good some in
-    (telegram-there (a .region .now) (a .block) (a .slot) good some, (refl, inside))
+    (sym (telegram-there (a .region .now) (a .block) (a .slot) good some), (refl, inside))
 
 pub locate-spec : {M : Type 1} → statement M
 locate-spec =

@@ -4,7 +4,7 @@ use Prim.Native.Nat.{_+_, _≤_}
 use native.Mathlib.Omega.{arith}
 use lib.ListN.{length}
 use borrow.Author.Needs.{needs}
-use Rattle.log.proofs.ReadBackLaws.{part-fits, telegram-out, nothing-out}
+use Rattle.log.proofs.HandOutLaws.{part-fits, telegram-out, nothing-out}
 use Rattle.log.proofs.read_back.read_back.Statement.{statement}
 use Rattle.log.proofs.read_back.read_back.Tie as tie
 

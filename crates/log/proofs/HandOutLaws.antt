@@ -1,0 +1,81 @@
+-- What reading back hands out, by what is located; and the number 0 beside it tells that it is a telegram. Assumes nothing.
+use mathlib.Core.Path.{_≡_, refl, ap, sym, _∙_}
+use mathlib.Core.Bool.{not}
+use mathlib.Core.List.{List, [], _∷_}
+use Prim.Native.Nat.{ℕ, zero, suc, _+_, _-_, _≤_}
+use native.Mathlib.Omega.{arith}
+use lib.ListN.{length, take, drop}
+use denote.Ref.{RefT, now}
+use Rattle.refusals.specs.Refusals.{_when_, Outcome, done, refused, unless, after}
+use Rattle.log.specs.Good.{telegramsOf, isGood}
+use Rattle.log.specs.Region.{blocksOf}
+use Rattle.log.specs.ReadBack.{numbered, telegramAt, readBackOf}
+use Rattle.log.specs.declared.read_back.Located.{Located}
+use Rattle.log.specs.declared.read_back.Located.the-variants.{At, Refused}
+use Rattle.log.specs.Answers.{locatedIn, telegramPlace, StandsIn, numberOf, bytesOf, HandedOut}
+use Rattle.log.proofs.PartLaws.{part-lent}
+
+-- What is handed out, by what is located.
+module _ (region : RefT (List ℕ)) (block slot : ℕ) (r : Located)
+    (known : (locatedIn (now region) r ≡ readBackOf (now region) block slot) × StandsIn (now region) block slot r) where
+  pub part-fits : (start size : ℕ) → r ≡ At start size → start + size ≤ length (now region)
+  part-fits start size is = rw is at (known .1) .1
+
+  pub telegram-out : (start size : ℕ) (part : RefT (List ℕ)) → r ≡ At start size
+      → now part ≡ take (start + size - start) (drop start (now region)) → part .ptr ≡ (region .ptr .0, start + region .ptr .1)
+      → HandedOut (readBackOf (now region) block slot) (telegramPlace block slot) region part 0
+  telegram-out start size part is bytes own =
+      let answer : readBackOf (now region) block slot ≡ done (take size (drop start (now region))) =
+      sym (known .0) ∙ ap (locatedIn (now region)) is in
+      let place = rw is at (known .1) .0 in
+      let behind : start + region .ptr .1 ≡ region .ptr .1 + telegramPlace block slot = omega (arith, place) in
+      rw answer
+      (record {
+        number-is = refl;
+        bytes = bytes ∙ part-lent size start (now region);
+        own = own ∙ ap (λ offset. (region .ptr .0, offset)) behind;
+      })
+
+  pub nothing-out : (number : ℕ) (part : RefT (List ℕ)) → r ≡ Refused number → now part ≡ [] → part .ptr ≡ region .ptr
+      → HandedOut (readBackOf (now region) block slot) (telegramPlace block slot) region part number
+  nothing-out number part is bytes own =
+      let answer : readBackOf (now region) block slot ≡ refused number = sym (known .0) ∙ ap (locatedIn (now region)) is in
+      let none : region .ptr .1 ≡ region .ptr .1 + 0 = omega arith in
+      rw answer (record { number-is = refl; bytes = bytes; own = own ∙ ap (λ offset. (region .ptr .0, offset)) none })
+
+-- No refusal has the number 0, so the 0 beside a part tells that it is a telegram.
+abbrev Told : {A : Type 0} → Outcome A → Type 0
+Told (done value) = Unit {0}
+Told (refused number) = number ≡ 0 → ⊥
+
+told-unless : {A : Type 0} (n : ℕ) (value : A) → Told (unless n value)
+unfolding unless
+told-unless zero value = tt
+told-unless (suc n) value = λ none. absurd (omega arith)
+
+told-numbered : {A : Type 0} (n : ℕ) (values : List A) → Told (numbered n values)
+told-numbered n [] = λ none. absurd (omega arith)
+told-numbered zero (value ∷ values) = tt
+told-numbered (suc n) (value ∷ values) = told-numbered n values
+
+told-after : {A B : Type 0} (first : Outcome A) (next : A → Outcome B) → Told first → ((value : A) → Told (next value))
+    → Told (after first next)
+told-after (done value) next told later = later value
+told-after (refused number) next told later = told
+
+pub zero-tells : (region : List ℕ) (block slot : ℕ) → numberOf (readBackOf region block slot) ≡ 0
+    → readBackOf region block slot ≡ done (bytesOf (readBackOf region block slot))
+unfolding readBackOf blocksOf
+zero-tells region block slot =
+    go (readBackOf region block slot)
+    (told-after (blocksOf region) (λ blocks. after (numbered block blocks) (telegramAt slot)) (told-unless _ _)
+    (λ blocks.
+    told-after (numbered block blocks) (telegramAt slot) (told-numbered block blocks)
+    (λ bytes.
+    told-after (unless (20 when not (isGood bytes)) (telegramsOf bytes)) (numbered slot)
+    (told-unless (20 when not (isGood bytes)) (telegramsOf bytes))
+    (told-numbered slot))))
+  where
+    go : (answer : Outcome (List ℕ)) → Told answer → numberOf answer ≡ 0 → answer ≡ done (bytesOf answer)
+    go (done bytes) told none = refl
+    go (refused number) told none = absurd (told none)
