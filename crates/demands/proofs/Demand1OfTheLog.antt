@@ -5,8 +5,8 @@ use mathlib.Core.List.{List, [], _∷_}
 use Prim.Native.Nat.{ℕ, zero, suc}
 use native.Mathlib.Omega.{arith}
 use lib.Dec.{ltb, leb·suc-zero, leb·suc-suc}
-use lib.ListN.{length}
-use borrow.Author.Tests.{ltb-true, ltb-false, lt-ltb}
+use lib.ListN.{length, getD}
+use borrow.Author.Tests.{ltb-true, lt-ltb}
 use Rattle.refusals.specs.Refusals.{_when_, Outcome, done, refused, unless, after}
 use Rattle.telegram.specs.Reading.{readOf}
 use Rattle.log.specs.declared.verify.Verified.the-variants.{Bad}
@@ -18,7 +18,7 @@ use Rattle.log.specs.Add.{placeAt, firstFree, someUsed, freeBehindUsed, blockAt
 use Rattle.log.specs.ReadBack.{numbered, telegramAt, readBackOf}
 use Rattle.log.specs.OfTheLog.{blocksIn}
 use Rattle.log.proofs.BlockLaws.{count-telegrams}
-use Rattle.log.proofs.RegionLaws.{numbered-there, numbered-not}
+use Rattle.log.proofs.RegionLaws.{blocks-length, blocks-at}
 use Rattle.log.proofs.PlaceLaws.{none-used}
 use Rattle.log.proofs.AddHolds.{a-refused-add-leaves-the-region}
 use Rattle.demands.specs.Numbers.{Rule, _givenWhen_, firstOf, _byFirst_}
@@ -72,12 +72,20 @@ pub demand-1-no-byte-of-the-log : ARefusedAddChangesNoByte
 unfolding addOf
 demand-1-no-byte-of-the-log = a-refused-add-leaves-the-region
 
--- reading back: 27 where there are not so many
-numbered-by : {A : Type 0} (n : ℕ) (values : List A) → numbered n values byFirst 27 givenWhen not (ltb n (length values)) ∷ []
+-- reading back: what is done with the one of a number, and 27 where there are not so many
+numbered-then : {A : Type 0} (n : ℕ) (values : List (List ℕ)) (next : List ℕ → Outcome A)
+    → after (numbered n values) next ≡ cond (ltb n (length values)) (next (getD values n [])) (refused 27)
+numbered-then n [] next = rw (leb·suc-zero n)
+numbered-then zero (value ∷ values) next = rw (lt-ltb 0 (suc (length values)) (omega arith))
+numbered-then (suc n) (value ∷ values) next = rw (leb·suc-suc (suc n) (length values)) (numbered-then n values next)
+
+numbered-by : (n : ℕ) (values : List (List ℕ)) → numbered n values byFirst 27 givenWhen not (ltb n (length values)) ∷ []
 unfolding unless
-numbered-by n [] = rw (leb·suc-zero n)
-numbered-by zero (value ∷ values) = rw (lt-ltb 0 (suc (length values)) (omega arith))
-numbered-by (suc n) (value ∷ values) = rw (leb·suc-suc (suc n) (length values)) (numbered-by n values)
+numbered-by n values = numbered-then n values (λ value. done tt) ∙ go (ltb n (length values))
+  where
+    go : (there : Bool) → cond there (done tt) (refused 27) ≡ unless {A = Unit {0}} (firstOf (27 givenWhen not there ∷ [])) tt
+    go true = refl
+    go false = refl
 
 slot-by : (slot : ℕ) (block : List ℕ)
     → telegramAt slot block byFirst 20 givenWhen not (isGood block) ∷ 27 givenWhen not (ltb slot (countIn block)) ∷ []
@@ -97,12 +105,17 @@ block-by : (region : List ℕ) (block slot : ℕ)
     → after (numbered block (blocksWithin region)) (telegramAt slot)
     byFirst blockRules (ltb block (blocksIn region)) slot (blockAt block region)
 unfolding unless
-block-by region block slot = go (ltb block (blocksIn region)) refl
+block-by region block slot =
+    ap (λ o. after o (λ v. done tt))
+    (numbered-then block (blocksWithin region) (telegramAt slot) ∙ ap (λ n. found (ltb block n)) (blocks-length (blocksIn region) region))
+    ∙ go (ltb block (blocksIn region)) refl
   where
-    go : (there : Bool) → ltb block (blocksIn region) ≡ there
-        → after (numbered block (blocksWithin region)) (telegramAt slot) byFirst blockRules there slot (blockAt block region)
-    go true e = rw (numbered-there (blocksIn region) block region (ltb-true _ _ e)) (slot-by slot (blockAt block region))
-    go false e = rw (numbered-not (blocksIn region) block region (ltb-false _ _ e))
+    found : Bool → Outcome (List ℕ)
+    found there = cond there (telegramAt slot (getD (blocksWithin region) block [])) (refused 27)
+
+    go : (there : Bool) → ltb block (blocksIn region) ≡ there → found there byFirst blockRules there slot (blockAt block region)
+    go true e = rw (blocks-at (blocksIn region) block region [] (ltb-true _ _ e)) (slot-by slot (blockAt block region))
+    go false e = refl
 
 pub demand-1-reading-back : ReadingBackRefuses
 unfolding readBackOf

@@ -1,9 +1,10 @@
 -- Document 02, c, holds. Assumes nothing.
 use Rattle.log.specs.Add.{addOf}
 use Rattle.log.proofs.BlockHolds.{a-good-block-is-made-by-its-telegrams, a-good-block-has-512-bytes, a-zeroed-block-is-good-and-empty}
-use Rattle.log.proofs.CheckLaws.{noticed, the-sum-fits}
+use Rattle.log.proofs.CheckLaws.{noticed, the-sum-fits, one-reduction-is-enough}
 use Rattle.log.proofs.PlaceHolds.{verify-names-the-first-bad-block, no-blocks-are-good-and-full, an-add-goes-behind-the-last-used, that-place-is-taken, no-such-place-is-refused}
 use Rattle.log.proofs.AddHolds.{what-is-added-is-read-back, what-was-read-back-still-is, good-blocks-stay-good, no-other-byte-changes, a-refused-add-leaves-the-region, a-block-spoils-no-other}
+use Rattle.log.proofs.HandOutLaws.{zero-tells}
 use Rattle.log.proofs.FillHolds.{adds-fill-zeroed-blocks-in-order}
 use Rattle.demands.specs.TheLog.{AnAddedTelegramIsReadBack, TheFirstBadBlockIsNamed, TheLogIsAsAskedFor}
 
@@ -16,4 +17,4 @@ the-first-bad-block-is-named region number whole is = verify-names-the-first-bad
 
 pub the-log : TheLogIsAsAskedFor
 the-log =
-    (a-good-block-is-made-by-its-telegrams, a-good-block-has-512-bytes, a-zeroed-block-is-good-and-empty, the-sum-fits, what-is-added-is-read-back, what-was-read-back-still-is, good-blocks-stay-good, no-other-byte-changes, verify-names-the-first-bad-block, an-add-goes-behind-the-last-used, that-place-is-taken, adds-fill-zeroed-blocks-in-order, noticed, a-block-spoils-no-other, no-such-place-is-refused, no-blocks-are-good-and-full, a-refused-add-leaves-the-region)
+    (a-good-block-is-made-by-its-telegrams, a-good-block-has-512-bytes, a-zeroed-block-is-good-and-empty, the-sum-fits, one-reduction-is-enough, what-is-added-is-read-back, zero-tells, what-was-read-back-still-is, good-blocks-stay-good, no-other-byte-changes, verify-names-the-first-bad-block, an-add-goes-behind-the-last-used, that-place-is-taken, adds-fill-zeroed-blocks-in-order, noticed, a-block-spoils-no-other, no-such-place-is-refused, no-blocks-are-good-and-full, a-refused-add-leaves-the-region)

@@ -10,6 +10,8 @@ use Rattle.listing.specs.AsPrinted.{TheListingIsAsPrinted}
 use Rattle.pages.specs.AsPrinted.{TheWholeListingIsAsPrinted}
 use Rattle.leitch.specs.AsPrinted.{TheReplyIsAsPrinted, EveryReplyIsAsPrinted}
 use Rattle.requests.specs.AsPrinted.{RequestsAreAsPrinted}
+use Rattle.log.specs.AsPrinted.{TheLogIsAsPrinted}
+use Rattle.listing.specs.LogAsPrinted.{TheLogsListingsAreAsPrinted}
 use Rattle.demands.specs.Boundary.{TheBoundaryTableHolds}
 
 abbrev pub AllIsAsPrinted : Type 0
@@ -41,3 +43,7 @@ AllIsAsPrinted =
     × SixtiesAreAsPrinted
     × TheLastSixtyIsAsPrinted
     × TheLastStepIsAsPrinted
+    -- document 02, c: blocks in literal bytes, their checks, blocks that break one rule each; where adds go, what is read back and
+    -- verified; the rows of a log
+    × TheLogIsAsPrinted
+    × TheLogsListingsAreAsPrinted

@@ -9,9 +9,9 @@ use Rattle.log.specs.declared.Place.{Place}
 use Rattle.log.specs.declared.verify.Verified.{Verified}
 use Rattle.log.specs.declared.verify.Verified.the-variants.{Bad}
 use Rattle.log.specs.Region.{isWhole}
-use Rattle.log.specs.OfABlock.{AGoodBlockIsMadeByItsTelegrams, AGoodBlockHas512Bytes, AZeroedBlockIsGoodAndEmpty, AnyChangedByteIsNoticed, TheSumNeedsNoMoreThan32Bits}
+use Rattle.log.specs.OfABlock.{AGoodBlockIsMadeByItsTelegrams, AGoodBlockHas512Bytes, AZeroedBlockIsGoodAndEmpty, AnyChangedByteIsNoticed, TheSumNeedsNoMoreThan32Bits, OneReductionAtTheEndIsEnough}
 use Rattle.log.specs.OfTheLog.{FirstBad, VerifyNamesTheFirstBadBlock, NoBlocksAreGoodAndFull, AnAddGoesBehindTheLastUsed, ThatPlaceIsTaken, NoSuchPlaceIsRefused}
-use Rattle.log.specs.OfTheLog.{WhatIsAddedIsReadBack, WhatWasReadBackStillIs, GoodBlocksStayGood, NoOtherByteChanges, ARefusedAddLeavesTheRegion, ABlockSpoilsNoOther, AddsFillZeroedBlocksInOrder}
+use Rattle.log.specs.OfTheLog.{WhatIsAddedIsReadBack, TheNumber0TellsATelegram, WhatWasReadBackStillIs, GoodBlocksStayGood, NoOtherByteChanges, ARefusedAddLeavesTheRegion, ABlockSpoilsNoOther, AddsFillZeroedBlocksInOrder}
 use Rattle.demands.specs.ProgramsOfTheLog.{adds, readsBack, verifies}
 
 -- "we want add, read back of a telegram's bytes by block and slot": what one adds, the other reads back at the place answered
@@ -40,9 +40,12 @@ TheLogIsAsAskedFor =
     -- "unused ones all zero": a zeroed block is one with none
     × AZeroedBlockIsGoodAndEmpty
     -- "the sum of each of the first 510 bytes times its place counted from 1": the program adds it up in 32 bits
+    -- and reduces it once
     × TheSumNeedsNoMoreThan32Bits
+    × OneReductionAtTheEndIsEnough
     -- "we want add, read back of a telegram's bytes by block and slot (both from 0)"
     × WhatIsAddedIsReadBack
+    × TheNumber0TellsATelegram
     × WhatWasReadBackStillIs
     × GoodBlocksStayGood
     × NoOtherByteChanges

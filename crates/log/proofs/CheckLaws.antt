@@ -15,7 +15,7 @@ use Rattle.refusals.proofs.Tables.{below}
 use Rattle.log.specs.Check.{weighed, modulus, checkOf, lowFirst}
 use Rattle.log.specs.Block.{checkPlace, blockSize, bodyOf, sealed}
 use Rattle.log.specs.Good.{telegramsOf, isGood}
-use Rattle.log.specs.OfABlock.{AnyChangedByteIsNoticed, AllBytes, TheSumNeedsNoMoreThan32Bits}
+use Rattle.log.specs.OfABlock.{AnyChangedByteIsNoticed, AllBytes, TheSumNeedsNoMoreThan32Bits, reducedEach, OneReductionAtTheEndIsEnough}
 use Rattle.log.proofs.EitherLaws.{lt-or-le}
 use Rattle.log.proofs.BlockLaws.{body-length, good-kept, good-made, good-length}
 
@@ -56,7 +56,21 @@ sum-small place (byte ∷ bytes) all =
     omega (arith, sum-small (suc place) bytes (all .1), mul-le-mul-right {m = byte} {n = 255} place (omega (arith, all .0)))
 
 pub the-sum-fits : TheSumNeedsNoMoreThan32Bits
-the-sum-fits body all short = omega (arith, sum-small 1 body all, mul-le-mul-right (length body) short)
+the-sum-fits body all short =
+    let bound : weighed 1 body ≤ 33227775 = omega (arith, sum-small 1 body all, mul-le-mul-right (length body) short) in
+    (omega (arith, bound), omega (arith, bound))
+
+reduced : (place : ℕ) (body : List ℕ) → weighed place body % modulus ≡ reducedEach place body
+reduced place [] = refl
+reduced place (byte ∷ bytes) =
+    let here = byte * place in
+    let rest = weighed (suc place) bytes in
+    let once : (here + rest) % modulus ≡ (here + rest % modulus) % modulus = omega arith in
+    once ∙ ap (λ n. (here + n) % modulus) (reduced (suc place) bytes)
+
+pub one-reduction-is-enough : OneReductionAtTheEndIsEnough
+unfolding checkOf
+one-reduction-is-enough body = reduced 1 body
 
 -- ---- the check
 

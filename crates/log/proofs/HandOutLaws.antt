@@ -12,8 +12,14 @@ use Rattle.log.specs.Region.{blocksOf}
 use Rattle.log.specs.ReadBack.{numbered, telegramAt, readBackOf}
 use Rattle.log.specs.declared.read_back.Located.{Located}
 use Rattle.log.specs.declared.read_back.Located.the-variants.{At, Refused}
-use Rattle.log.specs.Answers.{locatedIn, telegramPlace, StandsIn, numberOf, bytesOf, HandedOut}
+use Rattle.log.specs.Answers.{locatedIn, telegramPlace, StandsIn, numberOf, bytesOf, beginOf, byteAt}
+use Rattle.log.specs.OfTheLog.{TheNumber0TellsATelegram}
 use Rattle.log.proofs.PartLaws.{part-lent}
+
+-- what the promise of reading back says of a part's bytes, of where it begins and of the number beside it
+abbrev pub HandedOut : Outcome (List ℕ) → ℕ → RefT (List ℕ) → List ℕ → ℕ × ℕ → ℕ → Type 0
+HandedOut answer place region bytes begin number =
+    (number ≡ numberOf answer) × (bytes ≡ bytesOf answer) × (begin ≡ byteAt region (beginOf answer place))
 
 -- What is handed out, by what is located.
 module _ (region : RefT (List ℕ)) (block slot : ℕ) (r : Located)
@@ -21,27 +27,22 @@ module _ (region : RefT (List ℕ)) (block slot : ℕ) (r : Located)
   pub part-fits : (start size : ℕ) → r ≡ At start size → start + size ≤ length (now region)
   part-fits start size is = rw is at (known .1) .1
 
-  pub telegram-out : (start size : ℕ) (part : RefT (List ℕ)) → r ≡ At start size
-      → now part ≡ take (start + size - start) (drop start (now region)) → part .ptr ≡ (region .ptr .0, start + region .ptr .1)
-      → HandedOut (readBackOf (now region) block slot) (telegramPlace block slot) region part 0
-  telegram-out start size part is bytes own =
+  pub telegram-out : (start size : ℕ) → r ≡ At start size
+      → HandedOut (readBackOf (now region) block slot) (telegramPlace block slot) region
+      (take (start + size - start) (drop start (now region))) (region .ptr .0, start + region .ptr .1) 0
+  telegram-out start size is =
       let answer : readBackOf (now region) block slot ≡ done (take size (drop start (now region))) =
       sym (known .0) ∙ ap (locatedIn (now region)) is in
       let place = rw is at (known .1) .0 in
       let behind : start + region .ptr .1 ≡ region .ptr .1 + telegramPlace block slot = omega (arith, place) in
-      rw answer
-      (record {
-        number-is = refl;
-        bytes = bytes ∙ part-lent size start (now region);
-        own = own ∙ ap (λ offset. (region .ptr .0, offset)) behind;
-      })
+      rw answer (refl, part-lent size start (now region), ap (λ offset. (region .ptr .0, offset)) behind)
 
-  pub nothing-out : (number : ℕ) (part : RefT (List ℕ)) → r ≡ Refused number → now part ≡ [] → part .ptr ≡ region .ptr
-      → HandedOut (readBackOf (now region) block slot) (telegramPlace block slot) region part number
-  nothing-out number part is bytes own =
+  pub nothing-out : (number : ℕ) → r ≡ Refused number
+      → HandedOut (readBackOf (now region) block slot) (telegramPlace block slot) region [] (region .ptr) number
+  nothing-out number is =
       let answer : readBackOf (now region) block slot ≡ refused number = sym (known .0) ∙ ap (locatedIn (now region)) is in
       let none : region .ptr .1 ≡ region .ptr .1 + 0 = omega arith in
-      rw answer (record { number-is = refl; bytes = bytes; own = own ∙ ap (λ offset. (region .ptr .0, offset)) none })
+      rw answer (refl, refl, ap (λ offset. (region .ptr .0, offset)) none)
 
 -- No refusal has the number 0, so the 0 beside a part tells that it is a telegram.
 abbrev Told : {A : Type 0} → Outcome A → Type 0
@@ -63,8 +64,7 @@ told-after : {A B : Type 0} (first : Outcome A) (next : A → Outcome B) → Tol
 told-after (done value) next told later = later value
 told-after (refused number) next told later = told
 
-pub zero-tells : (region : List ℕ) (block slot : ℕ) → numberOf (readBackOf region block slot) ≡ 0
-    → readBackOf region block slot ≡ done (bytesOf (readBackOf region block slot))
+pub zero-tells : TheNumber0TellsATelegram
 unfolding readBackOf blocksOf
 zero-tells region block slot =
     go (readBackOf region block slot)

@@ -31,6 +31,14 @@ numbered-past n [] h = refl
 numbered-past zero (x ∷ xs) h = absurd (omega arith)
 numbered-past (suc n) (x ∷ xs) h = numbered-past n xs (omega arith)
 
+-- the block of a number, if the region has so many
+pub block-there : (n at : ℕ) (region : List ℕ) → at < n → numbered at (blocksFrom n region) ≡ done (blockAt at region)
+block-there n at region h =
+    numbered-at at (blocksFrom n region) [] (omega (arith, blocks-length n region)) ∙ ap done (blocks-at n at region [] h)
+
+pub block-missing : (n at : ℕ) (region : List ℕ) → n ≤ at → numbered at (blocksFrom n region) ≡ refused 27
+block-missing n at region h = numbered-past at (blocksFrom n region) (omega (arith, blocks-length n region))
+
 -- one more behind others: they keep their numbers, and its number is how many they are
 pub numbered-kept : {A : Type 0} (n : ℕ) (xs more : List A) (x : A) → numbered n xs ≡ done x → numbered n (xs ++ more) ≡ done x
 numbered-kept n [] more x e = let z : _≡_ {A = ℕ} 0 1 = cc in absurd (omega arith)
@@ -56,21 +64,10 @@ read-back-in : (region : List ℕ) (block slot : ℕ)
 unfolding readBackOf
 read-back-in region block slot = go (isWhole region) refl (ltb block (blocksIn region)) refl
   where
-    blocks : List (List ℕ)
-    blocks = blocksFrom (blocksIn region) region
-
-    so-many : length blocks ≡ blocksIn region
-    so-many = blocks-length (blocksIn region) region
-
     go : (whole : Bool) → isWhole region ≡ whole → (there : Bool) → ltb block (blocksIn region) ≡ there
         → readBackOf region block slot ≡ readIn (length region) (blockAt block region) block slot
-    go true e true f =
-        let h = ltb-true block (blocksIn region) f in
-        let found = numbered-at block blocks [] (omega (arith, so-many)) in
-        rw (whole-blocks region e, found, blocks-at (blocksIn region) block region [] h, e, f)
-    go true e false f =
-        let h = ltb-false block (blocksIn region) f in
-        rw (whole-blocks region e, numbered-past block blocks (omega (arith, so-many)), e, f)
+    go true e true f = rw (whole-blocks region e, block-there (blocksIn region) block region (ltb-true block (blocksIn region) f), e, f)
+    go true e false f = rw (whole-blocks region e, block-missing (blocksIn region) block region (ltb-false block (blocksIn region) f), e, f)
     go false e there f = rw (broken-blocks region e, e)
 
 -- regions of one length with the same block there read back the same from it

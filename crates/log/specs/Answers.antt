@@ -3,7 +3,7 @@ use mathlib.Core.List.{List, []}
 use mathlib.Core.Path.{_≡_}
 use Prim.Native.Nat.{ℕ, _+_, _*_, _≤_}
 use lib.ListN.{length, take, drop}
-use denote.Ref.{RefT, now}
+use denote.Ref.{RefT}
 use Rattle.refusals.specs.Refusals.{Outcome, done, refused}
 use Rattle.log.specs.declared.Place.{Place}
 use Rattle.log.specs.declared.add.AddAnswer.{AddAnswer}
@@ -46,12 +46,6 @@ abbrev pub beginOf : Outcome (List ℕ) → ℕ → ℕ
 beginOf (done bytes) place = place
 beginOf (refused number) place = 0
 
--- a part that begins at that byte of the region: the same memory, and no copy
-abbrev pub BeginsAt : RefT (List ℕ) → ℕ → RefT (List ℕ) → Type 0
-BeginsAt region place part = part .ptr ≡ (region .ptr .0, region .ptr .1 + place)
-
--- what reading back hands out
-pub record HandedOut (answer : Outcome (List ℕ)) (place : ℕ) (region part : RefT (List ℕ)) (number : ℕ) : Type 0 where
-  pub number-is : number ≡ numberOf answer
-  pub bytes : now part ≡ bytesOf answer
-  pub own : BeginsAt region (beginOf answer place) part
+-- the byte of the region at a place, as memory has it: what begins there is no copy
+abbrev pub byteAt : RefT (List ℕ) → ℕ → ℕ × ℕ
+byteAt region place = (region .ptr .0, region .ptr .1 + place)

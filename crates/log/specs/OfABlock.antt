@@ -2,9 +2,9 @@
 use mathlib.Core.Bool.{true, false}
 use mathlib.Core.List.{List, [], _∷_}
 use mathlib.Core.Path.{_≡_}
-use Prim.Native.Nat.{ℕ, _≤_, _<_}
+use Prim.Native.Nat.{ℕ, suc, _+_, _*_, _%_, _^_, _≤_, _<_}
 use lib.ListN.{length, getD, set, replicate}
-use Rattle.log.specs.Check.{weighed}
+use Rattle.log.specs.Check.{weighed, modulus, checkOf}
 use Rattle.log.specs.Block.{checkPlace, blockSize, blockOf}
 use Rattle.log.specs.Good.{telegramsOf, isKept, isGood}
 
@@ -33,10 +33,20 @@ AnyChangedByteIsNoticed =
     → (byte ≡ getD block place 0 → ⊥)
     → isGood (set block place byte) ≡ false
 
--- the sum of a check needs no more than 32 bits: of 510 bytes it is at most 255 times the sum of the numbers 1 to 510
+-- bytes
 abbrev pub AllBytes : List ℕ → Type 0
 AllBytes [] = Unit {0}
 AllBytes (byte ∷ bytes) = (byte < 256) × AllBytes bytes
 
+-- the sum of a check needs no more than 32 bits: of 510 bytes it is at most 255 times the sum of the numbers 1 to 510
 abbrev pub TheSumNeedsNoMoreThan32Bits : Type 0
-TheSumNeedsNoMoreThan32Bits = (body : List ℕ) → AllBytes body → length body ≤ checkPlace → weighed 1 body ≤ 33227775
+TheSumNeedsNoMoreThan32Bits =
+    (body : List ℕ) → AllBytes body → length body ≤ checkPlace → (weighed 1 body ≤ 255 * 130305) × (weighed 1 body < 2 ^ 32)
+
+-- and one reduction at the end is enough: reducing at each byte gives the same
+abbrev pub reducedEach : ℕ → List ℕ → ℕ
+reducedEach place [] = 0
+reducedEach place (byte ∷ bytes) = (byte * place + reducedEach (suc place) bytes) % modulus
+
+abbrev pub OneReductionAtTheEndIsEnough : Type 0
+OneReductionAtTheEndIsEnough = (body : List ℕ) → checkOf body ≡ reducedEach 1 body

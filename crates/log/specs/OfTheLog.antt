@@ -13,6 +13,7 @@ use Rattle.log.specs.Region.{isWhole, blocksOf}
 use Rattle.log.specs.Verify.{verifyOf}
 use Rattle.log.specs.Add.{placeAt, blockAt, withBlock, placeIn, placeFor, addOf}
 use Rattle.log.specs.ReadBack.{readBackOf}
+use Rattle.log.specs.Answers.{numberOf, bytesOf}
 
 -- how many blocks a region has
 abbrev pub blocksIn : List ℕ → ℕ
@@ -74,6 +75,12 @@ abbrev pub WhatIsAddedIsReadBack : Type 0
 WhatIsAddedIsReadBack =
     (region telegram : List ℕ) (place : Place) → placeFor region telegram ≡ done place
     → readBackOf (addOf region telegram .1) (place .block) (place .slot) ≡ done telegram
+
+-- the number 0 beside a part that is handed out tells that it is a telegram: no refusal has it
+abbrev pub TheNumber0TellsATelegram : Type 0
+TheNumber0TellsATelegram =
+    (region : List ℕ) (block slot : ℕ) → numberOf (readBackOf region block slot) ≡ 0
+    → readBackOf region block slot ≡ done (bytesOf (readBackOf region block slot))
 
 -- and all that could be read back before still is
 abbrev pub WhatWasReadBackStillIs : Type 0

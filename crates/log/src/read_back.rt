@@ -9,7 +9,7 @@ use refusals::NONE;
 use refusals::NOT_WHOLE_BLOCKS;
 ghost use mathlib.Core.Path.{_≡_};
 ghost use Rattle.log.specs.ReadBack.{readBackOf};
-ghost use Rattle.log.specs.Answers.{locatedIn, telegramPlace, StandsIn, HandedOut};
+ghost use Rattle.log.specs.Answers.{locatedIn, telegramPlace, StandsIn, numberOf, bytesOf, beginOf, byteAt};
 
 // Where a telegram's bytes begin in the region and how many they are, or the number that refuses it.
 enum Located {
@@ -42,7 +42,7 @@ fn locate(region: &[u8], block: usize, slot: usize) -> Located
 // Hands out the telegram's own bytes: a part of the region and no copy. What is refused hands out an empty part, and its number
 // in `number`, which is 0 where a telegram is handed out.
 pub fn read_back<'a>(region: &'a [u8], block: usize, slot: usize, number: &mut u8) -> &'a [u8]
-    ensures { λ r. ⌜ HandedOut (readBackOf (now (region .entry)) block slot) (telegramPlace block slot) (region .entry) r (now (number .exit)) ⌝ }
+    ensures { λ r. ⌜ (now (number .exit) ≡ numberOf (readBackOf (now (region .entry)) block slot)) × (now r ≡ bytesOf (readBackOf (now (region .entry)) block slot)) × (r .ptr ≡ byteAt (region .entry) (beginOf (readBackOf (now (region .entry)) block slot) (telegramPlace block slot))) ⌝ }
 {
     match locate(region, block, slot) {
         Located::At(start, size) => {

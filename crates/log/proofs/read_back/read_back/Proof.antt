@@ -45,15 +45,16 @@ returns : tie.Need-returns
 returns c =
     let a = c .before .before .before .before .before .before .args in
     let found = c .before .before .before .before .locate in
+    let start = c .before .before .start .given .0 in
     let told = c .before .before .start .given .1 in
-    telegram-out (a .region) (a .block) (a .slot) (found .result) (found .ensures) _ _ _ told refl refl
+    telegram-out (a .region) (a .block) (a .slot) (found .result) (found .ensures) (start .0) (start .1 .0) told
 
 returns-2 : tie.Need-returns-2
 returns-2 c =
     let a = c .before .before .before .before .before .before .args in
     let found = c .before .before .before .before .locate in
     let told = c .before .before .refusal .given .1 in
-    nothing-out (a .region) (a .block) (a .slot) (found .result) (found .ensures) _ _ told refl refl
+    nothing-out (a .region) (a .block) (a .slot) (found .result) (found .ensures) (c .before .before .refusal .given .0 .0) told
 
 pub read-back-spec : {M : Type 1} → statement M
 read-back-spec =
