@@ -22,3 +22,4 @@ pub mod AddLaws
 pub mod AddHolds
 pub mod FillLaws
 pub mod FillHolds
+pub mod Whole
