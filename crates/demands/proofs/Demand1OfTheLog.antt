@@ -12,11 +12,10 @@ use Rattle.telegram.specs.Reading.{readOf}
 use Rattle.log.specs.declared.verify.Verified.the-variants.{Bad}
 use Rattle.log.specs.Block.{slots}
 use Rattle.log.specs.Good.{countIn, telegramsOf, isGood}
-use Rattle.log.specs.Region.{isWhole, blocksOf}
+use Rattle.log.specs.Region.{isWhole, blocksOf, blockAt, blocksIn}
 use Rattle.log.specs.Verify.{firstBad, verifiedBy, verifyOf}
-use Rattle.log.specs.Add.{placeAt, firstFree, someUsed, freeBehindUsed, blockAt, placeIn, placeFor, addOf}
+use Rattle.log.specs.Add.{placeAt, firstFree, someUsed, freeBehindUsed, placeIn, placeFor, addOf}
 use Rattle.log.specs.ReadBack.{numbered, telegramAt, readBackOf}
-use Rattle.log.specs.OfTheLog.{blocksIn}
 use Rattle.log.proofs.BlockLaws.{count-telegrams}
 use Rattle.log.proofs.RegionLaws.{blocks-length, blocks-at}
 use Rattle.log.proofs.PlaceLaws.{none-used}

@@ -10,11 +10,10 @@ use Rattle.log.specs.declared.verify.Verified.{Verified}
 use Rattle.log.specs.declared.verify.Verified.the-variants.{AllGood, Bad, Refused}
 use Rattle.log.specs.Block.{slots}
 use Rattle.log.specs.Good.{countIn, isGood}
-use Rattle.log.specs.Region.{blocksFrom, isWhole}
+use Rattle.log.specs.Region.{blocksFrom, isWhole, blockAt, blocksIn}
 use Rattle.log.specs.Verify.{verifyOf}
-use Rattle.log.specs.Add.{someUsed, blockAt, addOf}
+use Rattle.log.specs.Add.{someUsed, addOf}
 use Rattle.log.specs.ReadBack.{readBackOf}
-use Rattle.log.specs.OfTheLog.{blocksIn}
 use Rattle.demands.specs.Numbers.{Rule, _givenWhen_, _byFirst_, _doneOr_}
 use Rattle.demands.specs.Rules.{readingRules}
 

@@ -11,8 +11,8 @@ use Rattle.refusals.specs.Refusals.{Outcome, done, refused}
 use Rattle.log.specs.declared.Place.{Place}
 use Rattle.log.specs.Block.{slots, slotSize, blockSize}
 use Rattle.log.specs.Good.{countIn, readsWell, isGood}
-use Rattle.log.specs.Region.{isWhole}
-use Rattle.log.specs.Add.{placeFor, blockAt, withBlock, entered, addOf}
+use Rattle.log.specs.Region.{isWhole, blockAt, withBlock}
+use Rattle.log.specs.Add.{placeFor, entered, addOf}
 use Rattle.log.specs.ReadBack.{telegramAt, readBackOf}
 use Rattle.log.specs.OfTheLog.{FirstFreeBehindTheLastUsed, WhatIsAddedIsReadBack, WhatWasReadBackStillIs}
 use Rattle.log.specs.OfTheLog.{GoodBlocksStayGood, OutsideTheSlot, NoOtherByteChanges}

@@ -14,8 +14,8 @@ use Rattle.refusals.specs.Refusals.{done, refused}
 use Rattle.log.specs.declared.Place.{Place}
 use Rattle.log.specs.Block.{slots, blockSize, blockOf}
 use Rattle.log.specs.Good.{countIn, telegramsOf, readsWell, allReadWell, isKept, isGood}
-use Rattle.log.specs.Region.{blocksFrom}
-use Rattle.log.specs.Add.{placeAt, someUsed, freeBehindUsed, placeIn, placeFor, blockAt, withBlock, entered, addOf}
+use Rattle.log.specs.Region.{blocksFrom, blockAt, withBlock}
+use Rattle.log.specs.Add.{placeAt, someUsed, freeBehindUsed, placeIn, placeFor, entered, addOf}
 use Rattle.log.proofs.EitherLaws.{lt-or-le}
 use Rattle.log.proofs.PlaceLaws.{none-used, place-whole}
 use Rattle.log.proofs.BlockLaws.{all-take, all-drop, kept-by, none-kept, zeroed-made}

@@ -13,9 +13,9 @@ use Rattle.log.specs.declared.Place.{Place}
 use Rattle.log.specs.declared.verify.Verified.the-variants.{Bad}
 use Rattle.log.specs.Block.{slots}
 use Rattle.log.specs.Good.{countIn, isGood}
-use Rattle.log.specs.Region.{blocksFrom}
-use Rattle.log.specs.Add.{placeAt, blockAt}
-use Rattle.log.specs.OfTheLog.{blocksIn, UsedBehind, FirstFreeBehindTheLastUsed}
+use Rattle.log.specs.Region.{blocksFrom, blockAt, blocksIn}
+use Rattle.log.specs.Add.{placeAt}
+use Rattle.log.specs.OfTheLog.{UsedBehind, FirstFreeBehindTheLastUsed}
 use Rattle.log.specs.OfTheLog.{VerifyNamesTheFirstBadBlock, NoBlocksAreGoodAndFull}
 use Rattle.log.specs.OfTheLog.{AnAddGoesBehindTheLastUsed, ThatPlaceIsTaken, NoSuchPlaceIsRefused}
 use Rattle.log.proofs.RegionLaws.{blocks-length, blocks-at}

@@ -12,9 +12,8 @@ use Rattle.refusals.specs.Refusals.{Outcome, done, refused, after}
 use Rattle.log.specs.declared.Place.{Place}
 use Rattle.log.specs.Block.{slots, blockSize}
 use Rattle.log.specs.Good.{countIn, isGood}
-use Rattle.log.specs.Region.{blocksFrom, isWhole}
-use Rattle.log.specs.Add.{placeAt, firstFree, someUsed, freeBehindUsed, blockAt, placeIn}
-use Rattle.log.specs.OfTheLog.{blocksIn}
+use Rattle.log.specs.Region.{blocksFrom, isWhole, blockAt, blocksIn}
+use Rattle.log.specs.Add.{placeAt, firstFree, someUsed, freeBehindUsed, placeIn}
 use Rattle.log.specs.Tests.{orElse, placeWith, placeThen}
 use Rattle.log.proofs.RegionLaws.{block-part, blocks-start, blocks-turn, blocks-end, whole-blocks, broken-blocks}
 

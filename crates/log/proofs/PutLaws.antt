@@ -10,7 +10,8 @@ use Rattle.refusals.specs.Refusals.{done}
 use Rattle.log.specs.declared.Place.{Place}
 use Rattle.log.specs.Block.{slots, blockSize}
 use Rattle.log.specs.Good.{countIn, isGood}
-use Rattle.log.specs.Add.{placeIn, blockAt, entered, regionAfter}
+use Rattle.log.specs.Region.{blockAt}
+use Rattle.log.specs.Add.{placeIn, entered, regionAfter}
 use Rattle.log.specs.OfTheLog.{FirstFreeBehindTheLastUsed}
 use Rattle.log.proofs.RegionLaws.{block-part}
 use Rattle.log.proofs.PlaceHolds.{an-add-goes-behind-the-last-used}

@@ -11,10 +11,8 @@ use borrow.Author.Tests.{ltb-true, ltb-false, lt-ltb, le-ltb}
 use Rattle.refusals.specs.Refusals.{Outcome, done, refused, unless}
 use Rattle.log.specs.Block.{slots, slotSize, countPlace, blockSize, filled, slotOf}
 use Rattle.log.specs.Good.{countIn, telegramIn, telegramsOf, isGood}
-use Rattle.log.specs.Region.{blocksFrom, isWhole}
-use Rattle.log.specs.Add.{blockAt}
+use Rattle.log.specs.Region.{blocksFrom, isWhole, blockAt, blocksIn}
 use Rattle.log.specs.ReadBack.{numbered, telegramAt, readBackOf}
-use Rattle.log.specs.OfTheLog.{blocksIn}
 use Rattle.log.proofs.PartLaws.{part-of-part, part-first}
 use Rattle.log.proofs.BlockLaws.{slot-at, count-telegrams, telegrams-at, kept-count, kept-short, block-shape}
 use Rattle.log.proofs.BlockLaws.{good-kept, good-made}

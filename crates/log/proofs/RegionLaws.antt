@@ -9,9 +9,7 @@ use native.Mathlib.Omega.{arith}
 use lib.ListN.{length, take, drop, getD}
 use Rattle.refusals.specs.Refusals.{done, refused, unless}
 use Rattle.log.specs.Block.{blockSize}
-use Rattle.log.specs.Region.{blocksFrom, isWhole, blocksOf}
-use Rattle.log.specs.Add.{blockAt, withBlock}
-use Rattle.log.specs.OfTheLog.{blocksIn}
+use Rattle.log.specs.Region.{blocksFrom, isWhole, blocksOf, blockAt, withBlock, blocksIn}
 use Rattle.log.proofs.EitherLaws.{lt-or-le, Beside}
 use Rattle.log.proofs.PartLaws.{part-byte, part-lent, behind-first, behind-each, put-length, put-there, put-part, put-byte}
 

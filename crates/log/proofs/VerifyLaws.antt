@@ -9,9 +9,8 @@ use lib.ListN.{length, take, drop, getD}
 use Rattle.log.specs.declared.verify.Verified.the-variants.{AllGood, Bad, Refused}
 use Rattle.log.specs.Block.{blockSize}
 use Rattle.log.specs.Good.{isGood}
-use Rattle.log.specs.Region.{blocksFrom, isWhole}
+use Rattle.log.specs.Region.{blocksFrom, isWhole, blocksIn}
 use Rattle.log.specs.Verify.{firstBad, verifiedBy, verifyOf}
-use Rattle.log.specs.OfTheLog.{blocksIn}
 use Rattle.log.proofs.RegionLaws.{block-part, blocks-start, blocks-turn, blocks-end, whole-blocks, broken-blocks}
 
 -- whole or not

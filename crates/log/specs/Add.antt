@@ -1,15 +1,14 @@
 -- Document 02 c), "an add goes to the first free slot of a good block behind the last slot used in any good block".
 use mathlib.Core.Bool.{Bool, true, false, cond, _&&_, _||_}
 use mathlib.Core.List.{List, [], _∷_, _++_}
-use Prim.Native.Nat.{ℕ, suc, _+_, _*_}
+use Prim.Native.Nat.{ℕ, suc}
 use lib.Dec.{ltb}
-use lib.ListN.{take, drop}
 use Rattle.refusals.specs.Refusals.{Outcome, done, refused, after}
 use Rattle.telegram.specs.Reading.{readOf}
 use Rattle.log.specs.declared.Place.{Place}
-use Rattle.log.specs.Block.{slots, blockSize, blockOf}
+use Rattle.log.specs.Block.{slots, blockOf}
 use Rattle.log.specs.Good.{countIn, telegramsOf, isGood}
-use Rattle.log.specs.Region.{blocksOf}
+use Rattle.log.specs.Region.{blocksOf, blockAt, withBlock}
 
 abbrev pub placeAt : ℕ → ℕ → Place
 placeAt block slot = record { block = block; slot = slot }
@@ -38,14 +37,6 @@ placeIn region = after (blocksOf region) (freeBehindUsed 0)
 -- "an added telegram's own" refusal comes first
 unfoldable pub placeFor : List ℕ → List ℕ → Outcome Place
 placeFor region telegram = after (readOf true telegram) (λ rec. placeIn region)
-
--- the block of that number
-abbrev pub blockAt : ℕ → List ℕ → List ℕ
-blockAt number region = take blockSize (drop (blockSize * number) region)
-
--- the region with another block of that number
-abbrev pub withBlock : ℕ → List ℕ → List ℕ → List ℕ
-withBlock number block region = take (blockSize * number) region ++ (block ++ drop (blockSize * number + blockSize) region)
 
 -- the block with one telegram more
 abbrev pub entered : List ℕ → List ℕ → List ℕ

@@ -9,15 +9,11 @@ use Rattle.log.specs.declared.Place.{Place}
 use Rattle.log.specs.declared.verify.Verified.the-variants.{AllGood, Bad, Refused}
 use Rattle.log.specs.Block.{slots, slotSize, countPlace, checkPlace, blockSize}
 use Rattle.log.specs.Good.{countIn, readsWell, allReadWell, isGood}
-use Rattle.log.specs.Region.{isWhole, blocksOf}
+use Rattle.log.specs.Region.{isWhole, blocksIn, blockAt, withBlock}
 use Rattle.log.specs.Verify.{verifyOf}
-use Rattle.log.specs.Add.{placeAt, blockAt, withBlock, placeIn, placeFor, addOf}
+use Rattle.log.specs.Add.{placeAt, placeIn, placeFor, addOf}
 use Rattle.log.specs.ReadBack.{readBackOf}
 use Rattle.log.specs.Answers.{numberOf, bytesOf}
-
--- how many blocks a region has
-abbrev pub blocksIn : List ℕ → ℕ
-blocksIn region = length region / blockSize
 
 -- "verify, which names the first bad block": that one is bad, and none before it
 pub record FirstBad (region : List ℕ) (number : ℕ) : Type 0 where

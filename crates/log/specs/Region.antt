@@ -1,7 +1,7 @@
 -- Document 02 c), "over a lent region of whole blocks".
 use mathlib.Core.Bool.{Bool, not}
-use mathlib.Core.List.{List, [], _∷_}
-use Prim.Native.Nat.{ℕ, zero, suc, _%_, _/_}
+use mathlib.Core.List.{List, [], _∷_, _++_}
+use Prim.Native.Nat.{ℕ, zero, suc, _+_, _*_, _%_, _/_}
 use lib.Dec.{eqb}
 use lib.ListN.{length, take, drop}
 use Rattle.refusals.specs.Refusals.{_when_, Outcome, unless}
@@ -16,6 +16,18 @@ blocksFrom (suc n) bytes = take blockSize bytes ∷ blocksFrom n (drop blockSize
 abbrev pub isWhole : List ℕ → Bool
 isWhole region = eqb (length region % blockSize) 0
 
+-- how many blocks a region has
+abbrev pub blocksIn : List ℕ → ℕ
+blocksIn region = length region / blockSize
+
 -- the blocks of a region
 unfoldable pub blocksOf : List ℕ → Outcome (List (List ℕ))
-blocksOf region = unless (19 when not (isWhole region)) (blocksFrom (length region / blockSize) region)
+blocksOf region = unless (19 when not (isWhole region)) (blocksFrom (blocksIn region) region)
+
+-- the block of a number
+abbrev pub blockAt : ℕ → List ℕ → List ℕ
+blockAt number region = take blockSize (drop (blockSize * number) region)
+
+-- the region with another block of that number
+abbrev pub withBlock : ℕ → List ℕ → List ℕ → List ℕ
+withBlock number block region = take (blockSize * number) region ++ (block ++ drop (blockSize * number + blockSize) region)

@@ -8,7 +8,7 @@ ghost use Rattle.log.specs.Check.{checkOf};
 
 const MODULUS: u32 = 65521;
 
-// Each byte times its place counted from 1. The sum of 510 bytes stays below 2^26, so one reduction at the end is enough.
+// Each byte times its place counted from 1. The sum of 510 bytes stays below 2^25, so one reduction at the end is enough.
 pub(crate) fn check_of(body: &[u8]) -> u32
     requires { ⌜ length (now body) ≤ checkPlace ⌝ }
     ensures { λ r. ⌜ r ≡ checkOf (now (body .entry)) ⌝ }

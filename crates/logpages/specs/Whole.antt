@@ -2,21 +2,17 @@
 use mathlib.Core.Bool.{cond}
 use mathlib.Core.List.{List, [], _∷_, _++_}
 use mathlib.Core.Path.{_≡_}
-use Prim.Native.Nat.{ℕ, suc, _/_, _^_, _≤_, _<_}
+use Prim.Native.Nat.{ℕ, suc, _^_, _≤_, _<_}
 use lib.ListN.{length}
 use Rattle.ascii.specs.Ascii.{ascii}
-use Rattle.log.specs.Block.{blockSize}
 use Rattle.log.specs.Good.{isGood}
-use Rattle.log.specs.Region.{blocksFrom, isWhole}
+use Rattle.log.specs.Region.{blocksFrom, blocksIn, isWhole}
 use Rattle.listing.specs.LogRows.{logHeader, blockRow, verifyHeader, tailRow, badCount}
 use Rattle.logpages.specs.LogPages.{blockRows, offsetOf, verifiedRow, pageRoom}
 
--- how many whole blocks a file has, and those blocks
-abbrev pub wholeIn : List ℕ → ℕ
-wholeIn file = length file / blockSize
-
-abbrev pub blocksIn : List ℕ → List (List ℕ)
-blocksIn file = blocksFrom (wholeIn file) file
+-- the whole blocks of a file
+abbrev pub wholeBlocks : List ℕ → List (List ℕ)
+wholeBlocks file = blocksFrom (blocksIn file) file
 
 -- the rows of blocks, the first of them with the number that is given
 abbrev pub listed : (ℕ → List ℕ → List ℕ) → ℕ → List (List ℕ) → List ℕ
@@ -29,7 +25,7 @@ ifAnyBehind file row = cond (isWhole file) [] row
 
 -- the telegrams of a log: the header, the rows of each block, the row of what is no block
 unfoldable pub logListing : List ℕ → List ℕ
-logListing file = logHeader ++ listed blockRows 0 (blocksIn file) ++ ifAnyBehind file (blockRow (wholeIn file) 19)
+logListing file = logHeader ++ listed blockRows 0 (wholeBlocks file) ++ ifAnyBehind file (blockRow (blocksIn file) 19)
 
 -- how many blocks are bad
 abbrev pub badIn : List (List ℕ) → ℕ
@@ -40,9 +36,9 @@ badIn (block ∷ blocks) = cond (isGood block) (badIn blocks) (suc (badIn blocks
 unfoldable pub verifyListing : List ℕ → List ℕ
 verifyListing file =
     verifyHeader
-    ++ listed verifiedRow 0 (blocksIn file)
-    ++ ifAnyBehind file (tailRow (wholeIn file) (offsetOf (wholeIn file)) 19)
-    ++ badCount (badIn (blocksIn file))
+    ++ listed verifiedRow 0 (wholeBlocks file)
+    ++ ifAnyBehind file (tailRow (blocksIn file) (offsetOf (blocksIn file)) 19)
+    ++ badCount (badIn (wholeBlocks file))
 
 -- a file with no byte, and one with a byte and no block
 abbrev pub TheListingsWithNoBlock : Type 0

@@ -6,12 +6,12 @@ use borrow.Author.Needs.{needs}
 use borrow.Author.Tests.{eq-eqb, ne-eqb, not-true, not-false}
 use Rattle.log.specs.Block.{slots}
 use Rattle.log.specs.Good.{isGood}
-use Rattle.log.specs.Add.{blockAt}
 use Rattle.log.proofs.RegionLaws.{block-part}
 use Rattle.log.proofs.ReadBackLaws.{GoodBlock, not-whole, no-such-block, bad-block, no-such-slot, is-slot}
 use Rattle.log.proofs.ReadBackLaws.{ends-inside, telegram-there}
 use Rattle.log.proofs.read_back.locate.Statement.{statement}
 use Rattle.log.proofs.read_back.locate.Tie as tie
+use Rattle.log.specs.Region.{blockAt}
 
 returns : tie.Need-returns
 returns c =
