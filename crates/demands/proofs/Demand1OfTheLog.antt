@@ -12,7 +12,7 @@ use Rattle.telegram.specs.Reading.{readOf}
 use Rattle.log.specs.declared.verify.Verified.the-variants.{Bad}
 use Rattle.log.specs.Block.{slots}
 use Rattle.log.specs.Good.{countIn, telegramsOf, isGood}
-use Rattle.log.specs.Region.{isWhole, blocksOf, blockAt, blocksIn}
+use Rattle.log.specs.Region.{isWhole, blocksIn, wholeBlocks, blocksOf, blockAt}
 use Rattle.log.specs.Verify.{firstBad, verifiedBy, verifyOf}
 use Rattle.log.specs.Add.{placeAt, firstFree, someUsed, freeBehindUsed, placeIn, placeFor, addOf}
 use Rattle.log.specs.ReadBack.{numbered, telegramAt, readBackOf}
@@ -22,19 +22,19 @@ use Rattle.log.proofs.PlaceLaws.{none-used}
 use Rattle.log.proofs.AddHolds.{a-refused-add-leaves-the-region}
 use Rattle.demands.specs.Numbers.{Rule, _givenWhen_, firstOf, _byFirst_}
 use Rattle.demands.specs.Rules.{readingRules}
-use Rattle.demands.specs.Demand1OfTheLog.{blocksWithin, hasFree, someBad, freeRules, readBackRules, verifyRules, verifiedOutcome, AddingRefuses, ReadingBackRefuses, VerifyingRefuses, ARefusedAddChangesNoByte}
+use Rattle.demands.specs.Demand1OfTheLog.{hasFree, someBad, freeRules, readBackRules, verifyRules, verifiedOutcome, AddingRefuses, ReadingBackRefuses, VerifyingRefuses, ARefusedAddChangesNoByte}
 use Rattle.demands.proofs.Refusing.{else-nothing, then-by, after-by, after-or, done-or}
 use Rattle.demands.proofs.RulesHold.{reading-rules}
 use Rattle.demands.proofs.Demand1Holds.{demand-1-reading}
 
 -- 19, and what is done with the blocks of a whole region
 whole-by : {A : Type 0} (region : List ℕ) (next : List (List ℕ) → Outcome A) (later : List Rule)
-    → next (blocksWithin region) byFirst later
+    → next (wholeBlocks region) byFirst later
     → after (blocksOf region) next byFirst 19 givenWhen not (isWhole region) ∷ later
 unfolding blocksOf
 whole-by region next later on =
     let broken = 19 when not (isWhole region) in
-    then-by broken (blocksWithin region) next (19 givenWhen not (isWhole region) ∷ []) later (sym (else-nothing broken)) on
+    then-by broken (wholeBlocks region) next (19 givenWhen not (isWhole region) ∷ []) later (sym (else-nothing broken)) on
 
 -- a place for an add: the search ends at a block that is good and not full, with none used behind it
 free-by : (number : ℕ) (blocks : List (List ℕ)) → freeBehindUsed number blocks byFirst 21 givenWhen not (hasFree blocks) ∷ []
@@ -58,7 +58,7 @@ free-by number (block ∷ blocks) =
 pub demand-1-adding : AddingRefuses
 unfolding addOf placeFor placeIn
 demand-1-adding region telegram =
-    let blocks = blocksWithin region in
+    let blocks = wholeBlocks region in
     let read = readOf true telegram in
     let place : placeIn region byFirst freeRules region =
     whole-by region (freeBehindUsed 0) (21 givenWhen not (hasFree blocks) ∷ []) (free-by 0 blocks) in (
@@ -101,16 +101,16 @@ blockRules there slot block =
     20 givenWhen (there && not (isGood block)) ∷ 27 givenWhen not (there && ltb slot (countIn block)) ∷ []
 
 block-by : (region : List ℕ) (block slot : ℕ)
-    → after (numbered block (blocksWithin region)) (telegramAt slot)
+    → after (numbered block (wholeBlocks region)) (telegramAt slot)
     byFirst blockRules (ltb block (blocksIn region)) slot (blockAt block region)
 unfolding unless
 block-by region block slot =
     ap (λ o. after o (λ v. done tt))
-    (numbered-then block (blocksWithin region) (telegramAt slot) ∙ ap (λ n. found (ltb block n)) (blocks-length (blocksIn region) region))
+    (numbered-then block (wholeBlocks region) (telegramAt slot) ∙ ap (λ n. found (ltb block n)) (blocks-length (blocksIn region) region))
     ∙ go (ltb block (blocksIn region)) refl
   where
     found : Bool → Outcome (List ℕ)
-    found there = cond there (telegramAt slot (getD (blocksWithin region) block [])) (refused 27)
+    found there = cond there (telegramAt slot (getD (wholeBlocks region) block [])) (refused 27)
 
     go : (there : Bool) → ltb block (blocksIn region) ≡ there → found there byFirst blockRules there slot (blockAt block region)
     go true e = rw (blocks-at (blocksIn region) block region [] (ltb-true _ _ e)) (slot-by slot (blockAt block region))
@@ -143,7 +143,7 @@ verified-so (refused n) = refl
 pub demand-1-verifying : VerifyingRefuses
 unfolding verifyOf
 demand-1-verifying region =
-    let blocks = blocksWithin region in
+    let blocks = wholeBlocks region in
     let by : verifiedOutcome (verifyOf region) byFirst verifyRules region =
     ap (λ o. after o (λ v. done tt)) (verified-so (blocksOf region))
     ∙ whole-by region (λ all. verifiedOutcome (firstBad 0 all)) (20 givenWhen someBad blocks ∷ []) (bad-by 0 blocks) in

@@ -1,5 +1,5 @@
 -- The wrong add, read back and verify do not meet what document 02, c, asks for. Assumes nothing.
-use mathlib.Core.Path.{_≡_, refl, ap, _∙_}
+use mathlib.Core.Path.{_≡_, refl, ap, sym, _∙_}
 use mathlib.Core.Bool.{true, false}
 use mathlib.Core.List.{List, [], _∷_}
 use Prim.Native.Nat.{ℕ, _*_, _%_}
@@ -16,13 +16,15 @@ use Rattle.log.specs.declared.verify.Verified.the-variants.{AllGood, Bad}
 use Rattle.log.specs.Block.{blockSize}
 use Rattle.log.specs.Good.{isDone, readsWell, isGood}
 use Rattle.log.specs.Add.{placeAt, addOf}
-use Rattle.log.specs.OfTheLog.{FirstBad}
+use Rattle.log.specs.OfTheLog.{FirstBad, FirstFreeBehindTheLastUsed}
 use Rattle.log.proofs.BlockHolds.{a-zeroed-block-is-good-and-empty}
 use Rattle.log.proofs.CheckLaws.{noticed}
+use Rattle.log.proofs.PlaceHolds.{an-add-goes-behind-the-last-used}
+use Rattle.log.proofs.AddLaws.{reads-place}
 use Rattle.log.proofs.FillHolds.{adds-fill-zeroed-blocks-in-order}
 use Rattle.demands.specs.Wrong.{fixedRecord}
-use Rattle.demands.specs.WrongOfTheLog.{idleAdd, refusingReadBack, trustingVerify}
-use Rattle.demands.specs.TheLog.{ReadsBackWhatIsAdded, NamesTheFirstBad}
+use Rattle.demands.specs.WrongOfTheLog.{idleAdd, refusingAdd, refusingReadBack, trustingVerify}
+use Rattle.demands.specs.TheLog.{ReadsBackWhatIsAdded, TakesTheFreeSlot, NamesTheFirstBad}
 
 -- an add that does nothing: whatever reads back, it hands out one telegram for all
 pub idle-add-is-shut-out : (readBack : List ℕ → ℕ → ℕ → Outcome (List ℕ)) → ReadsBackWhatIsAdded idleAdd readBack → ⊥
@@ -50,6 +52,19 @@ added =
     let answers : addOf (replicate (blockSize * 1) 0) telegram .0 ∷ [] ≡ done (placeAt 0 0) ∷ [] =
     adds-fill-zeroed-blocks-in-order 1 (telegram ∷ []) (rw reads-well) (omega arith) .0 in
     cc
+
+-- an add that refuses everything: the same telegram and block
+is-free : FirstFreeBehindTheLastUsed (replicate (blockSize * 1) 0) (placeAt 0 0)
+unfolding addOf
+is-free =
+    an-add-goes-behind-the-last-used (replicate (blockSize * 1) 0) (placeAt 0 0)
+    (sym (reads-place (replicate (blockSize * 1) 0) telegram reads-well) ∙ added)
+
+pub refusing-add-is-shut-out : TakesTheFreeSlot refusingAdd → ⊥
+refusing-add-is-shut-out demand =
+    let told : refused 21 ≡ done (placeAt 0 0) = demand (replicate (blockSize * 1) 0) telegram (placeAt 0 0) reads-well refl is-free in
+    let z : _≡_ {A = ℕ} 0 1 = cc in
+    omega arith
 
 pub refusing-read-back-is-shut-out : ReadsBackWhatIsAdded addOf refusingReadBack → ⊥
 refusing-read-back-is-shut-out demand =
@@ -81,6 +96,6 @@ is-first-bad =
 
 pub trusting-verify-is-shut-out : NamesTheFirstBad trustingVerify → ⊥
 trusting-verify-is-shut-out demand =
-    let told : AllGood ≡ Bad 20 0 = demand changed 0 (ap (λ n. eqb (n % blockSize) 0) size-so) is-first-bad in
+    let told : AllGood ≡ Bad 20 0 = demand changed (ap (λ n. eqb (n % blockSize) 0) size-so) .0 0 is-first-bad in
     let z : _≡_ {A = ℕ} 0 1 = cc in
     omega arith

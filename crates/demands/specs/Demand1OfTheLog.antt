@@ -10,16 +10,12 @@ use Rattle.log.specs.declared.verify.Verified.{Verified}
 use Rattle.log.specs.declared.verify.Verified.the-variants.{AllGood, Bad, Refused}
 use Rattle.log.specs.Block.{slots}
 use Rattle.log.specs.Good.{countIn, isGood}
-use Rattle.log.specs.Region.{blocksFrom, isWhole, blockAt, blocksIn}
+use Rattle.log.specs.Region.{isWhole, blocksIn, wholeBlocks, blockAt}
 use Rattle.log.specs.Verify.{verifyOf}
 use Rattle.log.specs.Add.{someUsed, addOf}
 use Rattle.log.specs.ReadBack.{readBackOf}
 use Rattle.demands.specs.Numbers.{Rule, _givenWhen_, _byFirst_, _doneOr_}
 use Rattle.demands.specs.Rules.{readingRules}
-
--- the whole blocks of a region
-abbrev pub blocksWithin : List ℕ → List (List ℕ)
-blocksWithin region = blocksFrom (blocksIn region) region
 
 -- a "free slot of a good block behind the last slot used in any good block": of a good block that is not full, and none behind it
 -- that is good has a slot used
@@ -33,7 +29,7 @@ someBad (block ∷ blocks) = not (isGood block) || someBad blocks
 
 -- a place for an add: "19 region not whole blocks", "21 no such free slot for an add (a region of no blocks included)"
 abbrev pub freeRules : List ℕ → List Rule
-freeRules region = 19 givenWhen not (isWhole region) ∷ 21 givenWhen not (hasFree (blocksWithin region)) ∷ []
+freeRules region = 19 givenWhen not (isWhole region) ∷ 21 givenWhen not (hasFree (wholeBlocks region)) ∷ []
 
 -- adding: "an added telegram's own, then" those
 abbrev pub addRules : List ℕ → List ℕ → List Rule
@@ -49,7 +45,7 @@ readBackRules region block slot =
 
 -- verifying: 19, "20 block bad"
 abbrev pub verifyRules : List ℕ → List Rule
-verifyRules region = 19 givenWhen not (isWhole region) ∷ 20 givenWhen someBad (blocksWithin region) ∷ []
+verifyRules region = 19 givenWhen not (isWhole region) ∷ 20 givenWhen someBad (wholeBlocks region) ∷ []
 
 -- what verify answers: all is good, or a number
 abbrev pub verifiedOutcome : Verified → Outcome (Unit {0})

@@ -3,14 +3,15 @@
 use mathlib.Core.Bool.{true}
 use mathlib.Core.List.{List}
 use mathlib.Core.Path.{_≡_}
-use Prim.Native.Nat.{ℕ}
+use Prim.Native.Nat.{ℕ, _<_}
 use Rattle.refusals.specs.Refusals.{Outcome, done}
 use Rattle.log.specs.declared.Place.{Place}
 use Rattle.log.specs.declared.verify.Verified.{Verified}
-use Rattle.log.specs.declared.verify.Verified.the-variants.{Bad}
-use Rattle.log.specs.Region.{isWhole}
+use Rattle.log.specs.declared.verify.Verified.the-variants.{AllGood, Bad}
+use Rattle.log.specs.Good.{readsWell, isGood}
+use Rattle.log.specs.Region.{isWhole, blocksIn, blockAt}
 use Rattle.log.specs.OfABlock.{AGoodBlockIsMadeByItsTelegrams, AGoodBlockHas512Bytes, AZeroedBlockIsGoodAndEmpty, AnyChangedByteIsNoticed, TheSumNeedsNoMoreThan32Bits, OneReductionAtTheEndIsEnough}
-use Rattle.log.specs.OfTheLog.{FirstBad, VerifyNamesTheFirstBadBlock, NoBlocksAreGoodAndFull, AnAddGoesBehindTheLastUsed, ThatPlaceIsTaken, NoSuchPlaceIsRefused}
+use Rattle.log.specs.OfTheLog.{FirstBad, FirstFreeBehindTheLastUsed, VerifyNamesTheFirstBadBlock, NoBlocksAreGoodAndFull, AnAddGoesBehindTheLastUsed, ThatPlaceIsTaken, NoSuchPlaceIsRefused}
 use Rattle.log.specs.OfTheLog.{WhatIsAddedIsReadBack, TheNumber0TellsATelegram, WhatWasReadBackStillIs, GoodBlocksStayGood, NoOtherByteChanges, ARefusedAddLeavesTheRegion, ABlockSpoilsNoOther, AddsFillZeroedBlocksInOrder}
 use Rattle.demands.specs.ProgramsOfTheLog.{adds, readsBack, verifies}
 
@@ -23,10 +24,21 @@ ReadsBackWhatIsAdded add readBack =
 abbrev pub AnAddedTelegramIsReadBack : Type 0
 AnAddedTelegramIsReadBack = ReadsBackWhatIsAdded adds readsBack
 
--- "and verify, which names the first bad block"
+-- "an add goes to the first free slot .." wherever there is such a slot
+abbrev pub TakesTheFreeSlot : (List ℕ → List ℕ → Outcome Place × List ℕ) → Type 0
+TakesTheFreeSlot add =
+    (region telegram : List ℕ) (place : Place) → readsWell telegram ≡ true → isWhole region ≡ true → FirstFreeBehindTheLastUsed region place
+    → add region telegram .0 ≡ done place
+
+abbrev pub AnAddTakesTheFreeSlot : Type 0
+AnAddTakesTheFreeSlot = TakesTheFreeSlot adds
+
+-- "and verify, which names the first bad block", or says that all are good
 abbrev pub NamesTheFirstBad : (List ℕ → Verified) → Type 0
 NamesTheFirstBad verify =
-    (region : List ℕ) (number : ℕ) → isWhole region ≡ true → FirstBad region number → verify region ≡ Bad 20 number
+    (region : List ℕ) → isWhole region ≡ true
+    → ((number : ℕ) → FirstBad region number → verify region ≡ Bad 20 number)
+    × (((number : ℕ) → number < blocksIn region → isGood (blockAt number region) ≡ true) → verify region ≡ AllGood)
 
 abbrev pub TheFirstBadBlockIsNamed : Type 0
 TheFirstBadBlockIsNamed = NamesTheFirstBad verifies

@@ -11,6 +11,10 @@ use Rattle.log.specs.Add.{placeAt}
 abbrev pub idleAdd : List ℕ → List ℕ → Outcome Place × List ℕ
 idleAdd region telegram = (done (placeAt 0 0), region)
 
+-- an add that refuses everything
+abbrev pub refusingAdd : List ℕ → List ℕ → Outcome Place × List ℕ
+refusingAdd region telegram = (refused 21, region)
+
 -- a read back that refuses everything
 abbrev pub refusingReadBack : List ℕ → ℕ → ℕ → Outcome (List ℕ)
 refusingReadBack region block slot = refused 27

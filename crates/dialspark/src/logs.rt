@@ -31,8 +31,8 @@ struct Progress {
     more: bool,
 }
 
-// A read that a signal broke off is made again; any other failure is told.
-fn is_failure(got: isize) -> bool {
+// Whether a read failed, which is told. One that a signal broke off is made again.
+fn failed(got: isize) -> bool {
     if got >= 0 {
         return false;
     }
@@ -51,7 +51,7 @@ fn fill(file: i32, block: &mut [u8]) -> Filled {
     let mut turns = u64::MAX;
     while turns > 0 && done < length {
         let got = libc::read(file, &mut block[done..]);
-        if is_failure(got) {
+        if failed(got) {
             return Filled::Failed;
         }
         if got == 0 {
@@ -76,15 +76,36 @@ fn print_header(rows: Rows) -> Output {
     print_row(made, &out)
 }
 
-fn print_telegrams(so_far: Progress, block: &[u8]) -> Progress {
+// Whether the block that was listed is good, and how the output then stands.
+struct Printed {
+    good: bool,
+    output: Output,
+}
+
+// A bad block has a row of its own there, so that it need not be counted.
+fn print_telegrams(number: u64, block: &[u8]) -> Printed {
     let mut out = [0u8; PAGE];
-    let made = logpages::rows_of(so_far.blocks, block, &mut out);
-    let output = print_row(made, &out);
-    Progress {
-        blocks: std::num::wrapping_add_u64(so_far.blocks, 1),
-        bad: so_far.bad,
-        output: output,
-        more: is_whole(output),
+    let made = logpages::rows_of(number, block, &mut out);
+    Printed {
+        good: true,
+        output: print_row(made, &out),
+    }
+}
+
+fn print_verified(number: u64, block: &[u8]) -> Printed {
+    let mut out = [0u8; LONGEST_LOG_ROW];
+    let verified = logpages::verified_row(number, block, &mut out);
+    let made = verified.row;
+    Printed {
+        good: verified.good,
+        output: print_row(made, &out),
+    }
+}
+
+fn print_block(rows: Rows, number: u64, block: &[u8]) -> Printed {
+    match rows {
+        Rows::Telegrams => print_telegrams(number, block),
+        Rows::Blocks => print_verified(number, block),
     }
 }
 
@@ -95,23 +116,14 @@ fn bad_with(bad: u64, good: bool) -> u64 {
     std::num::wrapping_add_u64(bad, 1)
 }
 
-fn print_verified(so_far: Progress, block: &[u8]) -> Progress {
-    let mut out = [0u8; LONGEST_LOG_ROW];
-    let verified = logpages::verified_row(so_far.blocks, block, &mut out);
-    let made = verified.row;
-    let output = print_row(made, &out);
+// One block more.
+fn with_block(so_far: Progress, printed: Printed) -> Progress {
+    let output = printed.output;
     Progress {
         blocks: std::num::wrapping_add_u64(so_far.blocks, 1),
-        bad: bad_with(so_far.bad, verified.good),
+        bad: bad_with(so_far.bad, printed.good),
         output: output,
         more: is_whole(output),
-    }
-}
-
-fn print_block(rows: Rows, so_far: Progress, block: &[u8]) -> Progress {
-    match rows {
-        Rows::Telegrams => print_telegrams(so_far, block),
-        Rows::Blocks => print_verified(so_far, block),
     }
 }
 
@@ -167,11 +179,11 @@ fn ended(so_far: Progress, output: Output) -> Progress {
     }
 }
 
-// One block more, or the end. Where a read failed the listing has no last row.
+// The next block, or the end. Where a read failed the listing stops there.
 fn next(rows: Rows, file: i32, so_far: Progress) -> Progress {
     let mut block = [0u8; BLOCK_SIZE];
     match fill(file, &mut block) {
-        Filled::Whole => print_block(rows, so_far, &block),
+        Filled::Whole => with_block(so_far, print_block(rows, so_far.blocks, &block)),
         Filled::Ended(rest) => ended(so_far, print_rest(rows, so_far, rest)),
         Filled::Failed => {
             let output = so_far.output;

@@ -77,7 +77,8 @@ zeroedAndChanged =
     ∷ ((509, 1) ∷ (510, 0xFE) ∷ (511, 0x01) ∷ [], false)
     ∷ []
 
--- where an add goes, by the region: not into the gap of an empty block before a used one; behind a bad block, where the one before it is full;
+-- where an add goes, by the region: not into the gap of an empty block before a used one; behind a bad block, where the one before it is full
+-- or there is none;
 -- "21 no such free slot for an add (a region of no blocks included)"; "19 region not whole blocks"
 abbrev pub places : List (List ℕ × Outcome Place)
 places =
@@ -85,6 +86,7 @@ places =
     ∷ (blockOf [] ++ blockOf (stop ∷ []), done (placeAt 1 1))
     ∷ (blockOf (stop ∷ []) ++ blockOf [], done (placeAt 0 1))
     ∷ (fullBlock ++ blockOf [], done (placeAt 1 0))
+    ∷ (replicate 512 1 ++ blockOf [], done (placeAt 1 0))
     ∷ (fullBlock ++ replicate 512 1 ++ blockOf [], done (placeAt 2 0))
     ∷ (blockOf [] ++ fullBlock, refused 21)
     ∷ ([], refused 21)

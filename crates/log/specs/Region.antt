@@ -20,9 +20,13 @@ isWhole region = eqb (length region % blockSize) 0
 abbrev pub blocksIn : List ℕ → ℕ
 blocksIn region = length region / blockSize
 
--- the blocks of a region
+-- its whole blocks
+abbrev pub wholeBlocks : List ℕ → List (List ℕ)
+wholeBlocks region = blocksFrom (blocksIn region) region
+
+-- the blocks of a region that is nothing but blocks
 unfoldable pub blocksOf : List ℕ → Outcome (List (List ℕ))
-blocksOf region = unless (19 when not (isWhole region)) (blocksFrom (blocksIn region) region)
+blocksOf region = unless (19 when not (isWhole region)) (wholeBlocks region)
 
 -- the block of a number
 abbrev pub blockAt : ℕ → List ℕ → List ℕ

@@ -22,7 +22,7 @@ ghost use Rattle.log.specs.Add.{placeAt, placeIn, entered, regionAfter, 
 ghost use Rattle.log.specs.Answers.{addAnswer};
 ghost use Rattle.log.specs.Tests.{orElse, placeWith};
 
-// Where the telegram now stands, or the number that refuses it.
+// Where the telegram stands, or the number that refuses it. While a place is looked for: where it would stand, or 21.
 pub enum AddAnswer {
     Added(Place),
     Refused(u8),

@@ -1,3 +1,4 @@
+pub mod AsPrintedHolds
 pub mod RowLaws
 pub mod PageLaws
 pub mod WholeHolds

@@ -1,2 +1,3 @@
 pub mod LogPages
 pub mod Whole
+pub mod AsPrinted

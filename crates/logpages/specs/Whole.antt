@@ -6,13 +6,9 @@ use Prim.Native.Nat.{ℕ, suc, _^_, _≤_, _<_}
 use lib.ListN.{length}
 use Rattle.ascii.specs.Ascii.{ascii}
 use Rattle.log.specs.Good.{isGood}
-use Rattle.log.specs.Region.{blocksFrom, blocksIn, isWhole}
+use Rattle.log.specs.Region.{isWhole, blocksIn, wholeBlocks}
 use Rattle.listing.specs.LogRows.{logHeader, blockRow, verifyHeader, tailRow, badCount}
 use Rattle.logpages.specs.LogPages.{blockRows, offsetOf, verifiedRow, pageRoom}
-
--- the whole blocks of a file
-abbrev pub wholeBlocks : List ℕ → List (List ℕ)
-wholeBlocks file = blocksFrom (blocksIn file) file
 
 -- the rows of blocks, the first of them with the number that is given
 abbrev pub listed : (ℕ → List ℕ → List ℕ) → ℕ → List (List ℕ) → List ℕ

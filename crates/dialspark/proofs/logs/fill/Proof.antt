@@ -28,8 +28,8 @@ part-read-end c = omega (arith, c .before .before .loop .inv .0, c .before .befo
 read-requires : tie.Need-read-requires Inv-loop μ-loop
 read-requires c κs = search needs
 
-is-failure-requires : tie.Need-is-failure-requires Inv-loop μ-loop
-is-failure-requires c κs = search needs
+failed-requires : tie.Need-failed-requires Inv-loop μ-loop
+failed-requires c κs = search needs
 
 same-length : tie.Need-same-length Inv-loop μ-loop
 same-length c = search needs
@@ -90,7 +90,7 @@ fill-spec =
     part-read-start
     part-read-end
     read-requires
-    is-failure-requires
+    failed-requires
     same-length
     returns
     same-length-2
