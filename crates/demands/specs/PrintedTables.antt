@@ -12,6 +12,7 @@ use Rattle.leitch.specs.AsPrinted.{TheReplyIsAsPrinted, EveryReplyIsAsPrinted}
 use Rattle.requests.specs.AsPrinted.{RequestsAreAsPrinted}
 use Rattle.log.specs.AsPrinted.{TheLogIsAsPrinted}
 use Rattle.listing.specs.LogAsPrinted.{TheLogsListingsAreAsPrinted}
+use Rattle.logpages.specs.AsPrinted.{TheListingsOfALogAreAsPrinted}
 use Rattle.demands.specs.Boundary.{TheBoundaryTableHolds}
 
 abbrev pub AllIsAsPrinted : Type 0
@@ -44,6 +45,7 @@ AllIsAsPrinted =
     × TheLastSixtyIsAsPrinted
     × TheLastStepIsAsPrinted
     -- document 02, c: blocks in literal bytes, their checks, blocks that break one rule each; where adds go, what is read back and
-    -- verified; the rows of a log
+    -- verified; the rows of a log; a small file listed whole
     × TheLogIsAsPrinted
     × TheLogsListingsAreAsPrinted
+    × TheListingsOfALogAreAsPrinted
