@@ -6,17 +6,17 @@ use borrow.Author.Needs.{needs}
 use Rattle.listing.proofs.log_rows.bad_line.Statement.{statement}
 use Rattle.listing.proofs.log_rows.bad_line.Tie as tie
 
-bad-count-requires : tie.Need-bad-count-requires
-bad-count-requires c κs = search needs
+bad-line-text-requires : tie.Need-bad-line-text-requires
+bad-line-text-requires c κs = search needs
 
 lay-requires : tie.Need-lay-requires
-lay-requires c κs = small-enough _ _ (c .before .bad-count .ensures) (omega (arith, bad-count-short (c .before .before .before .args .bad) (omega arith)))
+lay-requires c κs = small-enough _ _ (c .before .bad-line-text .ensures) (omega (arith, bad-count-short (c .before .before .before .args .bad) (omega arith)))
 
 same-length : tie.Need-same-length
 same-length c = search needs
 
 returns : tie.Need-returns
-returns c = row-laid _ _ (c .before .before .before .before .bad-count .ensures) (omega (arith, bad-count-short (c .before .before .before .before .before .before .args .bad) (omega arith))) (c .before .before .before .before .before .before .args .out .now) (c .before .before .lay .ensures)
+returns c = row-laid _ _ (c .before .before .before .before .bad-line-text .ensures) (omega (arith, bad-count-short (c .before .before .before .before .before .before .args .bad) (omega arith))) (c .before .before .before .before .before .before .args .out .now) (c .before .before .lay .ensures)
 
 pub bad-line-spec : {M : Type 1} → statement M
-bad-line-spec = tie.close (tie.spec bad-count-requires lay-requires same-length returns)
+bad-line-spec = tie.close (tie.spec bad-line-text-requires lay-requires same-length returns)

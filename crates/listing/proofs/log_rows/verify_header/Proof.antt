@@ -6,18 +6,18 @@ use borrow.Author.Needs.{needs}
 use Rattle.listing.proofs.log_rows.verify_header.Statement.{statement}
 use Rattle.listing.proofs.log_rows.verify_header.Tie as tie
 
-verify-header-row-requires : tie.Need-verify-header-row-requires
-verify-header-row-requires c κs = search needs
+verify-header-text-requires : tie.Need-verify-header-text-requires
+verify-header-text-requires c κs = search needs
 
 lay-requires : tie.Need-lay-requires
-lay-requires c κs = small-enough _ _ (c .before .verify-header-row .ensures) (omega (arith, verify-header-short))
+lay-requires c κs = small-enough _ _ (c .before .verify-header-text .ensures) (omega (arith, verify-header-short))
 
 same-length : tie.Need-same-length
 same-length c = search needs
 
 returns : tie.Need-returns
-returns c = row-laid _ _ (c .before .before .before .before .verify-header-row .ensures) (omega (arith, verify-header-short)) (c .before .before .before .before .before .before .args .out .now) (c .before .before .lay .ensures)
+returns c = row-laid _ _ (c .before .before .before .before .verify-header-text .ensures) (omega (arith, verify-header-short)) (c .before .before .before .before .before .before .args .out .now) (c .before .before .lay .ensures)
 
 pub verify-header-spec : {M : Type 1} → statement M
 verify-header-spec =
-    tie.close (tie.spec verify-header-row-requires lay-requires same-length returns)
+    tie.close (tie.spec verify-header-text-requires lay-requires same-length returns)

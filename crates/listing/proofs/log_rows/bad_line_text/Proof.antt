@@ -1,9 +1,9 @@
--- `listing::log_rows::bad_count` meets its contract.
+-- `listing::log_rows::bad_line_text` meets its contract.
 use Rattle.listing.specs.LogRows.{badCount}
 use Rattle.listing.proofs.TextLaws.{behind, from-empty}
 use borrow.Author.Needs.{needs}
-use Rattle.listing.proofs.log_rows.bad_count.Statement.{statement}
-use Rattle.listing.proofs.log_rows.bad_count.Tie as tie
+use Rattle.listing.proofs.log_rows.bad_line_text.Statement.{statement}
+use Rattle.listing.proofs.log_rows.bad_line_text.Tie as tie
 
 empty-requires : tie.Need-empty-requires
 empty-requires c κs = search needs
@@ -24,8 +24,8 @@ returns : tie.Need-returns
 unfolding badCount
 returns c = from-empty _ (c .before .before .before .before .empty .ensures) (behind _ _ _ (behind _ _ _ (c .before .before .append .ensures) (c .before .decimal .ensures)) (c .push .ensures))
 
-pub bad-count-spec : {M : Type 1} → statement M
-bad-count-spec =
+pub bad-line-text-spec : {M : Type 1} → statement M
+bad-line-text-spec =
     tie.close
     (tie.spec
     empty-requires

@@ -1,9 +1,9 @@
--- `listing::log_rows::good_block` meets its contract.
+-- `listing::log_rows::good_text` meets its contract.
 use Rattle.listing.specs.LogRows.{goodRow}
 use Rattle.listing.proofs.TextLaws.{behind}
 use borrow.Author.Needs.{needs}
-use Rattle.listing.proofs.log_rows.good_block.Statement.{statement}
-use Rattle.listing.proofs.log_rows.good_block.Tie as tie
+use Rattle.listing.proofs.log_rows.good_text.Statement.{statement}
+use Rattle.listing.proofs.log_rows.good_text.Tie as tie
 
 block-columns-requires : tie.Need-block-columns-requires
 block-columns-requires c κs = search needs
@@ -24,8 +24,8 @@ returns : tie.Need-returns
 unfolding goodRow
 returns c = behind _ _ _ (behind _ _ _ (behind _ _ _ (c .before .before .before .before .block-columns .ensures) (c .before .before .append .ensures)) (c .before .decimal .ensures)) (c .push .ensures)
 
-pub good-block-spec : {M : Type 1} → statement M
-good-block-spec =
+pub good-text-spec : {M : Type 1} → statement M
+good-text-spec =
     tie.close
     (tie.spec
     block-columns-requires

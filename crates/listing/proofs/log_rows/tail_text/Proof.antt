@@ -1,9 +1,9 @@
--- `listing::log_rows::refused_tail` meets its contract.
+-- `listing::log_rows::tail_text` meets its contract.
 use Rattle.listing.specs.LogRows.{tailRow}
 use Rattle.listing.proofs.TextLaws.{behind}
 use borrow.Author.Needs.{needs}
-use Rattle.listing.proofs.log_rows.refused_tail.Statement.{statement}
-use Rattle.listing.proofs.log_rows.refused_tail.Tie as tie
+use Rattle.listing.proofs.log_rows.tail_text.Statement.{statement}
+use Rattle.listing.proofs.log_rows.tail_text.Tie as tie
 
 block-columns-requires : tie.Need-block-columns-requires
 block-columns-requires c κs = search needs
@@ -24,8 +24,8 @@ returns : tie.Need-returns
 unfolding tailRow
 returns c = behind _ _ _ (behind _ _ _ (behind _ _ _ (c .before .before .before .before .block-columns .ensures) (c .before .before .append .ensures)) (c .before .decimal .ensures)) (c .push .ensures)
 
-pub refused-tail-spec : {M : Type 1} → statement M
-refused-tail-spec =
+pub tail-text-spec : {M : Type 1} → statement M
+tail-text-spec =
     tie.close
     (tie.spec
     block-columns-requires

@@ -1,9 +1,9 @@
--- `listing::log_rows::record_row` meets its contract.
+-- `listing::log_rows::slot_text` meets its contract.
 use Rattle.listing.specs.LogRows.{slotRow}
 use Rattle.listing.proofs.TextLaws.{behind, from-empty}
 use borrow.Author.Needs.{needs}
-use Rattle.listing.proofs.log_rows.record_row.Statement.{statement}
-use Rattle.listing.proofs.log_rows.record_row.Tie as tie
+use Rattle.listing.proofs.log_rows.slot_text.Statement.{statement}
+use Rattle.listing.proofs.log_rows.slot_text.Tie as tie
 
 empty-requires : tie.Need-empty-requires
 empty-requires c κs = search needs
@@ -29,8 +29,8 @@ returns c = let block = behind _ _ _ (c .before .before .before .before .decimal
     let slot = behind _ _ _ (behind _ _ _ block (c .before .before .decimal2 .ensures)) (c .before .push2 .ensures) in
     from-empty _ (c .before .before .before .before .before .empty .ensures) (behind _ _ _ slot (c .columns .ensures))
 
-pub record-row-spec : {M : Type 1} → statement M
-record-row-spec =
+pub slot-text-spec : {M : Type 1} → statement M
+slot-text-spec =
     tie.close
     (tie.spec
     empty-requires

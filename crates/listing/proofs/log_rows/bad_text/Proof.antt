@@ -1,9 +1,9 @@
--- `listing::log_rows::bad_block` meets its contract.
+-- `listing::log_rows::bad_text` meets its contract.
 use Rattle.listing.specs.LogRows.{badRow}
 use Rattle.listing.proofs.TextLaws.{behind}
 use borrow.Author.Needs.{needs}
-use Rattle.listing.proofs.log_rows.bad_block.Statement.{statement}
-use Rattle.listing.proofs.log_rows.bad_block.Tie as tie
+use Rattle.listing.proofs.log_rows.bad_text.Statement.{statement}
+use Rattle.listing.proofs.log_rows.bad_text.Tie as tie
 
 block-columns-requires : tie.Need-block-columns-requires
 block-columns-requires c κs = search needs
@@ -18,6 +18,6 @@ returns : tie.Need-returns
 unfolding badRow
 returns c = behind _ _ _ (c .before .before .block-columns .ensures) (c .append .ensures)
 
-pub bad-block-spec : {M : Type 1} → statement M
-bad-block-spec =
+pub bad-text-spec : {M : Type 1} → statement M
+bad-text-spec =
     tie.close (tie.spec block-columns-requires slice-aggregate-append append-requires returns)
