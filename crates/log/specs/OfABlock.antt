@@ -26,7 +26,7 @@ AGoodBlockHas512Bytes = (block : List ℕ) → isGood block ≡ true → length 
 abbrev pub AZeroedBlockIsGoodAndEmpty : Type 0
 AZeroedBlockIsGoodAndEmpty = (isGood (replicate blockSize 0) ≡ true) × (telegramsOf (replicate blockSize 0) ≡ [])
 
--- "any single changed byte in a block must be noticed"
+-- "any single changed byte in a block must be noticed": at every place, by every other byte, where bytes are numbers below 256
 abbrev pub AnyChangedByteIsNoticed : Type 0
 AnyChangedByteIsNoticed =
     (block : List ℕ) (place byte : ℕ) → isGood block ≡ true → place < blockSize → getD block place 0 < 256 → byte < 256
