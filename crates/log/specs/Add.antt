@@ -10,6 +10,7 @@ use Rattle.log.specs.Block.{slots, blockOf}
 use Rattle.log.specs.Good.{countIn, telegramsOf, isGood}
 use Rattle.log.specs.Region.{blocksOf, blockAt, withBlock}
 
+-- a block and a slot, both from 0
 abbrev pub placeAt : ℕ → ℕ → Place
 placeAt block slot = record { block = block; slot = slot }
 

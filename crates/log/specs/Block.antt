@@ -28,6 +28,7 @@ filled size bytes = bytes ++ replicate (size - length bytes) 0
 unfoldable pub slotOf : List ℕ → List ℕ
 slotOf telegram = filled slotSize (length telegram ∷ telegram)
 
+-- the slots used, one behind another
 abbrev pub slotsOf : List (List ℕ) → List ℕ
 slotsOf [] = []
 slotsOf (telegram ∷ telegrams) = slotOf telegram ++ slotsOf telegrams
@@ -40,5 +41,6 @@ bodyOf telegrams = filled checkPlace (filled countPlace (slotsOf telegrams) ++ l
 unfoldable pub sealed : List ℕ → List ℕ
 sealed body = body ++ lowFirst (checkOf body)
 
+-- the block of a list of telegrams
 abbrev pub blockOf : List (List ℕ) → List ℕ
 blockOf telegrams = sealed (bodyOf telegrams)

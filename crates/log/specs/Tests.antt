@@ -29,6 +29,7 @@ slotsFit (suc n) bytes = slotFits (take slotSize bytes) && slotsFit n (drop slot
 unfoldable pub checkFits : List ℕ → Bool
 checkFits block = same (drop checkPlace block) (lowFirst (checkOf (take checkPlace block)))
 
+-- a place that was found, else another
 abbrev pub orElse : Outcome Place → Outcome Place → Outcome Place
 orElse (done place) other = done place
 orElse (refused n) other = other

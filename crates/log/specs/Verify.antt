@@ -13,6 +13,7 @@ abbrev pub firstBad : ℕ → List (List ℕ) → Verified
 firstBad number [] = AllGood
 firstBad number (block ∷ blocks) = cond (isGood block) (firstBad (suc number) blocks) (Bad 20 number)
 
+-- where the region is whole blocks
 abbrev pub verifiedBy : Outcome (List (List ℕ)) → Verified
 verifiedBy (done blocks) = firstBad 0 blocks
 verifiedBy (refused number) = Refused number
