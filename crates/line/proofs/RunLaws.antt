@@ -1,17 +1,17 @@
 -- Laws of runs, one byte after the other. Assumes nothing.
-use mathlib.Core.Path.{_≡_, refl, ap}
-use mathlib.Core.Bool.{Bool, true, false, cond}
-use mathlib.Core.List.{List, [], _∷_}
+use mathlib.Core.Path.{_≡_, refl, ap, sym, _∙_}
+use mathlib.Core.Bool.{Bool, true, false, cond, _||_, true≢false, false≢true}
+use mathlib.Core.List.{List, [], _∷_, _++_}
 use Prim.Native.Nat.{ℕ, zero, suc, _+_, _-_, _≤_, _<_}
 use native.Mathlib.Numerals.{add-one}
 use native.Mathlib.Omega.{arith}
 use lib.Dec.{eqb}
-use lib.ListN.{length, take, drop, getD, drop-of-length-le}
-use lib.Seq.{drop-cons, take-nil}
+use lib.ListN.{length, take, drop, getD, drop-of-length-le, length-drop, take-append-drop}
+use lib.Seq.{drop-cons, drop-drop, length-take-le, take-nil}
 use borrow.Author.Tests.{eqb-true}
 use Rattle.ascii.specs.Control.{stx}
 use Rattle.line.specs.Line.{places, isPlain}
-use Rattle.line.specs.Runs.{strayRun, plainRun, roomyRun}
+use Rattle.line.specs.Runs.{beginsWithStx, hasStx, strayRun, plainRun, roomyRun}
 
 module _ (piece : List ℕ) (at : ℕ) where
   pub stray-end : length piece ≤ at → strayRun (drop at piece) ≡ 0
@@ -19,6 +19,12 @@ module _ (piece : List ℕ) (at : ℕ) where
 
   pub stray-byte : at < length piece → strayRun (drop at piece) ≡ cond (eqb (getD piece at 0) stx) 0 (suc (strayRun (drop (at + 1) piece)))
   stray-byte h = rw (drop-cons piece at 0 h, add-one)
+
+  pub stx-end : length piece ≤ at → hasStx (drop at piece) ≡ false
+  stx-end h = rw (drop-of-length-le piece h)
+
+  pub stx-byte : at < length piece → hasStx (drop at piece) ≡ (eqb (getD piece at 0) stx || hasStx (drop (at + 1) piece))
+  stx-byte h = rw (drop-cons piece at 0 h, add-one)
 
   pub run-end : (end : ℕ) → length piece ≤ at → roomyRun end (drop at piece) ≡ 0
   run-end end h = rw (drop-of-length-le piece h) (ap plainRun (take-nil (places - end)))
@@ -71,3 +77,38 @@ stray-on false n byte piece e h = (omega (arith, h .0), λ more. h .1 (omega ari
 pub stray-ends : (piece : List ℕ) → StrayEnds (strayRun piece) piece
 stray-ends [] = (omega arith, λ more. absurd (omega arith))
 stray-ends (byte ∷ piece) = stray-on (eqb byte stx) (strayRun piece) byte piece refl (stray-ends piece)
+
+-- an STX in front: no run, and not for want of bytes
+pub begins-empty : (piece : List ℕ) → length piece ≡ 0 → beginsWithStx piece ≡ false
+begins-empty [] none = refl
+begins-empty (byte ∷ piece) none = absurd (omega (arith, none))
+
+pub begins-byte : (piece : List ℕ) → beginsWithStx piece ≡ eqb (getD piece 0 0) stx
+begins-byte [] = refl
+begins-byte (byte ∷ piece) = refl
+
+pub begins-at-once : (piece : List ℕ) → beginsWithStx piece ≡ true → (0 ≡ strayRun piece) × (0 < length piece)
+begins-at-once [] begins = absurd (false≢true begins)
+begins-at-once (byte ∷ piece) begins = (ap (λ t. cond t 0 (suc (strayRun piece))) (sym begins), omega arith)
+
+-- bytes without an STX lengthen the run behind them by their number
+past-on : (t has : Bool) (run size behind : ℕ) → (t || has) ≡ false → (has ≡ false → run ≡ size + behind) → cond t 0 (suc run) ≡ suc size + behind
+past-on true has run size behind none h = absurd (true≢false none)
+past-on false has run size behind none h = omega (arith, h none)
+
+stray-past : (front behind : List ℕ) → hasStx front ≡ false → strayRun (front ++ behind) ≡ length front + strayRun behind
+stray-past [] behind none = omega arith
+stray-past (byte ∷ front) behind none =
+    past-on (eqb byte stx) (hasStx front) (strayRun (front ++ behind)) (length front) (strayRun behind) none (stray-past front behind)
+
+-- so a part of a piece without an STX moves the place that is looked at, and not the end of the run
+pub stray-block : (piece : List ℕ) (at end : ℕ) → at ≤ end → end ≤ length piece → hasStx (take (end - at) (drop at piece)) ≡ false
+    → end + strayRun (drop end piece) ≡ at + strayRun (drop at piece)
+stray-block piece at end order fits none =
+    let size = end - at in
+    let block = take size (drop at piece) in
+    let is-size : length block ≡ size = length-take-le size (drop at piece) (omega (arith, length-drop at piece)) in
+    let ends : at + size ≡ end = omega arith in
+    let behind = ap strayRun (drop-drop size at piece ∙ ap (λ n. drop n piece) ends) in
+    let whole = ap strayRun (take-append-drop size (drop at piece)) in
+    omega (arith, is-size, behind, whole, stray-past block (drop size (drop at piece)) none)

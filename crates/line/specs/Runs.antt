@@ -1,11 +1,20 @@
 -- The words of the line's private functions: runs of bytes at the front of a piece that are taken alike.
-use mathlib.Core.Bool.{cond}
+use mathlib.Core.Bool.{Bool, false, cond, _||_}
 use mathlib.Core.List.{List, [], _∷_}
 use Prim.Native.Nat.{ℕ, suc, _-_}
 use lib.Dec.{eqb}
 use lib.ListN.{take}
 use Rattle.ascii.specs.Control.{stx}
 use Rattle.line.specs.Line.{places, isPlain}
+
+-- whether the first byte is an STX, and whether any byte is
+abbrev pub beginsWithStx : List ℕ → Bool
+beginsWithStx [] = false
+beginsWithStx (byte ∷ piece) = eqb byte stx
+
+abbrev pub hasStx : List ℕ → Bool
+hasStx [] = false
+hasStx (byte ∷ piece) = eqb byte stx || hasStx piece
 
 -- how many bytes stand before the first STX
 abbrev pub strayRun : List ℕ → ℕ

@@ -2,6 +2,7 @@
 mod judge;
 pub mod pieces;
 mod runs;
+mod skip;
 
 use record::RecordAnswer;
 use refusals::ENDED_INSIDE;
@@ -15,11 +16,12 @@ use telegram::STX;
 ghost use mathlib.Core.Path.{_≡_};
 ghost use Rattle.line.specs.declared.Heard.the-variants.{Refused};
 ghost use Rattle.line.specs.Line.{lineWith, readerWith, freshReader, wellFormed, readerOf, feedReader, endReader, isStarted, allZero};
+ghost use Rattle.line.specs.Runs.{strayRun};
 ghost use Rattle.ascii.specs.Control.{stx};
 ghost use mathlib.Core.Bool.{true};
 ghost use mathlib.Core.List.{[], _∷_};
 ghost use Prim.Native.Nat.{_+_, _%_, _^_, _<_};
-ghost use lib.ListN.{take, drop};
+ghost use lib.ListN.{length, take, drop};
 
 // How many bytes a reader holds at most; a telegram of one more is too long.
 pub const PLACES: usize = 24;
@@ -182,22 +184,14 @@ fn feed_inside(reader: Reader, piece: &[u8]) -> Fed
     }
 }
 
-// Outside a telegram: the bytes before the first STX are stray, and counted at once.
-fn feed_outside(fed: u32, stray: u32, piece: &[u8]) -> Fed
+// Outside a telegram, with an STX behind so many stray bytes: it begins a telegram, and what follows is fed to that.
+fn feed_begun(fed: u32, stray: u32, skipped: usize, piece: &[u8]) -> Fed
+    requires { ⌜ (skipped ≡ strayRun (now piece)) × (skipped < length (now piece)) ⌝ }
     ensures { λ r. ⌜ r ≡ feedReader (readerOf (lineWith [] fed stray)) (now (piece .entry)) ⌝ }
 {
-    let skipped = runs::stray_run(piece);
-    let stray = moved(stray, skipped);
     let length = piece.len();
-    if skipped == length {
-        return Fed {
-            reader: outside(moved(fed, skipped), stray),
-            taken: skipped,
-            heard: Heard::Nothing,
-        };
-    }
     let first = skipped + 1;
-    let inside = begun(moved(fed, first), stray);
+    let inside = begun(moved(fed, first), moved(stray, skipped));
     let later = feed_inside(inside, &piece[first..length]);
     let reader = later.reader;
     let heard = later.heard;
@@ -206,6 +200,25 @@ fn feed_outside(fed: u32, stray: u32, piece: &[u8]) -> Fed
         taken: first + later.taken,
         heard: heard,
     }
+}
+
+// Outside a telegram: the bytes before the first STX are stray, and counted at once. Where telegrams stand one behind another
+// there are none, so the first byte is looked at before any block.
+fn feed_outside(fed: u32, stray: u32, piece: &[u8]) -> Fed
+    ensures { λ r. ⌜ r ≡ feedReader (readerOf (lineWith [] fed stray)) (now (piece .entry)) ⌝ }
+{
+    if skip::begins_with_stx(piece) {
+        return feed_begun(fed, stray, 0, piece);
+    }
+    let skipped = skip::stray_run(piece);
+    if skipped == piece.len() {
+        return Fed {
+            reader: outside(moved(fed, skipped), moved(stray, skipped)),
+            taken: skipped,
+            heard: Heard::Nothing,
+        };
+    }
+    feed_begun(fed, stray, skipped, piece)
 }
 
 impl Reader {

@@ -1,11 +1,11 @@
-// Runs of bytes at the front of a piece that are taken alike, and so taken at once.
+// Plain bytes at the front of a piece, which are held at once.
 use super::PLACES;
 use telegram::ETX;
 use telegram::STX;
 ghost use mathlib.Core.Path.{_≡_};
 ghost use lib.Seq.{paste};
 ghost use Rattle.line.specs.Line.{isPlain};
-ghost use Rattle.line.specs.Runs.{strayRun, roomyRun};
+ghost use Rattle.line.specs.Runs.{roomyRun};
 
 // Whether a byte is held inside a telegram as it comes.
 pub(crate) fn is_plain(byte: u8) -> bool
@@ -15,21 +15,6 @@ pub(crate) fn is_plain(byte: u8) -> bool
         return false;
     }
     byte != ETX
-}
-
-// How many bytes stand before the first STX.
-pub(crate) fn stray_run(piece: &[u8]) -> usize
-    ensures { λ r. ⌜ r ≡ strayRun (now (piece .entry)) ⌝ }
-{
-    let length = piece.len();
-    let mut at: usize = 0;
-    while at < length {
-        if piece[at] == STX {
-            return at;
-        }
-        at += 1;
-    }
-    at
 }
 
 // Bytes held behind others.

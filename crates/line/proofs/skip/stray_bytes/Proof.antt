@@ -1,4 +1,4 @@
--- `line::runs::stray_run` meets its contract. The loop's invariant: what was counted and what is left is the whole.
+-- `line::skip::stray_bytes` meets its contract. The loop's invariant: what was counted and what is left is the whole.
 use native.Mathlib.Omega.{arith}
 use mathlib.Core.Path.{_≡_, ap, _∙_}
 use mathlib.Core.Bool.{cond}
@@ -7,8 +7,8 @@ use lib.ListN.{length, drop}
 use borrow.Author.Tests.{eq-eqb, ne-eqb}
 use Rattle.line.specs.Runs.{strayRun}
 use Rattle.line.proofs.RunLaws.{stray-end, stray-byte}
-use Rattle.line.proofs.runs.stray_run.Statement.{statement}
-use Rattle.line.proofs.runs.stray_run.Tie as tie
+use Rattle.line.proofs.skip.stray_bytes.Statement.{statement}
+use Rattle.line.proofs.skip.stray_bytes.Tie as tie
 
 abbrev Inv-loop : tie.InvT-loop
 Inv-loop piece length at₀ at = at + strayRun (drop at piece) ≡ strayRun piece
@@ -45,8 +45,8 @@ loop-again c =
 returns-2 : tie.Need-returns-2 Inv-loop μ-loop
 returns-2 c = omega (arith, stray-end (c .before .before .args .piece .now) (c .before .loop .at) (c .loop-test .left), c .before .loop .inv)
 
-pub stray-run-spec : {M : Type 1} → statement M
-stray-run-spec =
+pub stray-bytes-spec : {M : Type 1} → statement M
+stray-bytes-spec =
     tie.close
     (tie.spec
     Inv-loop
