@@ -77,18 +77,17 @@ fn is_started(held: [u8; PLACES], len: usize) -> bool
     true
 }
 
-// Whether nothing but zeros stands from `len` on.
+// Whether nothing but zeros stands from `len` on. No place ends the loop, so that the compiler compares many of them at once.
 fn is_zero_from(held: [u8; PLACES], len: usize) -> bool
     ensures { λ r. ⌜ r ≡ allZero (drop len held) ⌝ }
 {
+    let mut zeros = true;
     let mut at = len;
     while at < PLACES {
-        if held[at] != 0 {
-            return false;
-        }
+        zeros = zeros & (held[at] == 0);
         at += 1;
     }
-    true
+    zeros
 }
 
 // A count that wraps.
