@@ -50,10 +50,9 @@ fn failed(printer: Printer) -> Turn {
     }
 }
 
-// One read, of as many bytes as are there.
-fn next(capture: i32, printer: Printer) -> Turn {
-    let mut piece = io::buffer();
-    let got = libc::read(capture, &mut piece);
+// One read, of as many bytes as are there and have room.
+fn next(capture: i32, printer: Printer, buffer: &mut [u8]) -> Turn {
+    let got = libc::read(capture, buffer);
     if got < 0 {
         return failed(printer);
     }
@@ -63,8 +62,8 @@ fn next(capture: i32, printer: Printer) -> Turn {
             more: false,
         };
     }
-    let count = io::count(got, &piece);
-    let after = printer.piece(&piece[..count]);
+    let count = io::count(got, buffer);
+    let after = printer.piece(&buffer[..count]);
     let output = after.output;
     Turn {
         printer: after,
@@ -72,14 +71,16 @@ fn next(capture: i32, printer: Printer) -> Turn {
     }
 }
 
-// Nothing says that the input ends, so the turns are counted down from a number that no run uses up.
+// Nothing says that the input ends, so the turns are counted down from a number that no run uses up. The buffer is made once
+// and lent to each, as a long capture would spend its time on making it.
 fn list(capture: i32) {
+    let mut buffer = io::large_buffer();
     let mut printer = Printer::start();
     let output = printer.output;
     let mut more = is_whole(output);
     let mut turns = u64::MAX;
     while turns > 0 && more {
-        let turn = next(capture, printer);
+        let turn = next(capture, printer, &mut buffer);
         printer = turn.printer;
         more = turn.more;
         turns -= 1;

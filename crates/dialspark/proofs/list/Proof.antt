@@ -1,14 +1,19 @@
--- `dialspark::list` is safe and ends. The measure is the number of turns that are left.
+-- `dialspark::list` is safe and ends. The measure is the number of turns that are left; the buffer keeps its length.
 use native.Mathlib.Omega.{arith}
+use mathlib.Core.Path.{_≡_}
+use lib.ListN.{length}
 use borrow.Author.Needs.{needs}
 use Rattle.dialspark.proofs.list.Statement.{statement}
 use Rattle.dialspark.proofs.list.Tie as tie
 
 abbrev Inv-loop : tie.InvT-loop
-Inv-loop capture printer₀ more₀ turns₀ printer more turns = Unit {0}
+Inv-loop capture buffer₀ printer₀ more₀ turns₀ buffer printer more turns = 65536 ≡ length buffer
 
 abbrev μ-loop : tie.MeasureT-loop
-μ-loop capture printer₀ more₀ turns₀ printer more turns = turns
+μ-loop capture buffer₀ printer₀ more₀ turns₀ buffer printer more turns = turns
+
+large-buffer-requires : tie.Need-large-buffer-requires Inv-loop μ-loop
+large-buffer-requires c κs = search needs
 
 start-requires : tie.Need-start-requires Inv-loop μ-loop
 start-requires c κs = search needs
@@ -17,7 +22,10 @@ is-whole-requires : tie.Need-is-whole-requires Inv-loop μ-loop
 is-whole-requires c κs = search needs
 
 loop-holds : tie.Need-loop-holds Inv-loop μ-loop
-loop-holds c = tt
+loop-holds c = search needs
+
+slice-aggregate-next : tie.Need-slice-aggregate-next Inv-loop μ-loop
+slice-aggregate-next c = search needs
 
 next-requires : tie.Need-next-requires Inv-loop μ-loop
 next-requires c κs = search needs
@@ -29,7 +37,7 @@ loop-less : tie.Need-loop-less Inv-loop μ-loop
 loop-less c = omega arith
 
 loop-again : tie.Need-loop-again Inv-loop μ-loop
-loop-again c = tt
+loop-again c = search needs
 
 tell-requires : tie.Need-tell-requires Inv-loop μ-loop
 tell-requires c κs = search needs
@@ -43,9 +51,11 @@ list-spec =
     (tie.spec
     Inv-loop
     μ-loop
+    large-buffer-requires
     start-requires
     is-whole-requires
     loop-holds
+    slice-aggregate-next
     next-requires
     sub-turns
     loop-less
