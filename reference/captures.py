@@ -1,4 +1,4 @@
-"""Lines for the program `test_lines`, damaged ones and the samples, and the listing that it should print for each.
+"""Lines for the program `test_lines`: damaged ones, the samples, and those with a run of stray bytes of each length.
 
 The program gets a line in pieces: two bytes that say how long a piece is, the higher first, and the piece. 65535 for a length ends
 the line, and what follows is a line of its own.
@@ -15,6 +15,7 @@ import listing
 import making
 import samples
 import second_60
+import stray_runs
 from layouts import LAYOUTS
 
 SEED = 6036
@@ -160,8 +161,8 @@ def check(lines):
                              f"seconds 60 {dict(seconds)}")
 
 
-def all_lines(seed=SEED):
-    """Every line, in pieces. The last has none."""
+def damaged_lines(seed=SEED):
+    """Damaged lines and samples, in pieces. The last has none."""
     dice = random.Random(seed)
     for cuts, lines, size in CUTS:
         for _ in range(lines):
@@ -172,3 +173,21 @@ def all_lines(seed=SEED):
         for _ in range(lines):
             yield pieces_of(dice, damaged_line(dice, 2500, second_60.some_telegram), cuts)
     yield []
+
+
+def lines_with_runs(seed=SEED):
+    """Lines with runs of stray bytes. A piece begins at a multiple of 64, so that a place of the line is one of its piece too."""
+    for captured in stray_runs.captures(seed):
+        yield pieces_of(None, captured, nowhere)
+
+
+def all_lines(seed=SEED):
+    """Every line, in pieces."""
+    return [*damaged_lines(seed), *lines_with_runs(seed)]
+
+
+def check_all(lines):
+    """Fails where something that has to occur among all lines does not."""
+    damaged = len(lines) - len(stray_runs.LENGTHS)
+    check(lines[:damaged])
+    stray_runs.check(b"".join(pieces) for pieces in lines[damaged:])
