@@ -21,7 +21,7 @@ abbrev pub outside : ℕ → ℕ → Line
 outside fed stray = lineWith [] fed stray
 
 -- two runs, one behind the other
-later-later : (n m k : ℕ) (f : Feeding) → m + n ≡ k → later n (later m f) ≡ later k f
+pub later-later : (n m k : ℕ) (f : Feeding) → m + n ≡ k → later n (later m f) ≡ later k f
 later-later n m k f e =
     let sum : f .taken + m + n ≡ f .taken + k = omega (arith, e) in
     λ i. record { line = f .line; taken = sum i; told = f .told; at = f .at }

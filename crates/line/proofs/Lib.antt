@@ -15,3 +15,4 @@ pub mod SentLaws
 pub mod HandsBack
 pub mod PositionLaws
 pub mod SentencesHold
+pub mod SkippingHolds

@@ -96,7 +96,7 @@ past-on : (t has : Bool) (run size behind : ℕ) → (t || has) ≡ false → (h
 past-on true has run size behind none h = absurd (true≢false none)
 past-on false has run size behind none h = omega (arith, h none)
 
-stray-past : (front behind : List ℕ) → hasStx front ≡ false → strayRun (front ++ behind) ≡ length front + strayRun behind
+pub stray-past : (front behind : List ℕ) → hasStx front ≡ false → strayRun (front ++ behind) ≡ length front + strayRun behind
 stray-past [] behind none = omega arith
 stray-past (byte ∷ front) behind none =
     past-on (eqb byte stx) (hasStx front) (strayRun (front ++ behind)) (length front) (strayRun behind) none (stray-past front behind)

@@ -5,3 +5,4 @@ pub mod Pieces
 pub mod Account
 pub mod SentLine
 pub mod Sentences
+pub mod Skipping
