@@ -19,8 +19,8 @@ ROOT = pathlib.Path(__file__).resolve().parent.parent
 HERE = ROOT / "bench"
 TELEGRAM = b"\x02E3123456170496\n\r\x03"
 
-# The emulated processor: an x86-64 with nothing newer than SSE2, for which the programs are compiled. And one with AVX2, for which
-# the C library has another memchr.
+# The emulated processor: an x86-64 without AVX, as the programs are compiled for any x86-64. And one with AVX2, for which the C library
+# has another memchr.
 PROCESSOR, WITH_AVX2 = "qemu64", "Haswell"
 SLOTS, SLOT = 15, 32
 
@@ -42,7 +42,7 @@ WORK = [
 ]
 
 # Stray bytes: in one long run of whole blocks of 64; in runs between telegrams that fill no such block, as the difference of two
-# lengths; and in a capture of several of the lister's buffers.
+# lengths, which the proved reader takes by a loop over bytes, as it once took all; and in a capture of several of the lister's buffers.
 LONG = 300 * 64, 600 * 64
 SHORT = 8, 40
 CAPTURE = 4 * 65536, 8 * 65536
@@ -113,16 +113,16 @@ def same(name, costs):
 def show(name, *costs):
     """A row of the counts of the proved program and of a plain one."""
     ours, theirs = same(name, costs)
-    print(f"{name:32}{ours:9.1f}{theirs:9.1f}{ours / theirs:8.1f}")
+    print(f"{name:34}{ours:9.1f}{theirs:9.1f}{ours / theirs:8.1f}")
 
 
 def show_work(counter, proved, plain):
     """The table of all work but stray bytes."""
-    print(f"{'instructions for':32}{'proved':>9}{'plain C':>9}{'ratio':>8}")
+    print(f"{'instructions for':34}{'proved':>9}{'plain C':>9}{'ratio':>8}")
     for name, letter, unit, few, many in WORK:
         ours = counter.cost(proved, letter, unit, few, many)
         if letter == b"w":
-            print(f"{name:32}{ours[0]:9.1f}")
+            print(f"{name:34}{ours[0]:9.1f}")
         else:
             show(name, ours, counter.cost(plain, letter, unit, few, many))
     show("an add to one block", counter.cost_of_adds(proved), counter.cost_of_adds(plain))
@@ -130,12 +130,12 @@ def show_work(counter, proved, plain):
 
 def show_stray_bytes(counter, proved, plain, searching, lister):
     """The table of stray bytes."""
-    print(f"{'a stray byte':32}{'proved':>9}{'plain C':>9}{'memchr':>9}{'with AVX2':>11}")
-    for name, cost in (("in a long run", counter.cost_in_a_long_run), ("in a run that fills no block", counter.cost_in_a_short_run)):
+    print(f"{'a stray byte':34}{'proved':>9}{'plain C':>9}{'memchr':>9}{'with AVX2':>11}")
+    for name, cost in (("in a long run", counter.cost_in_a_long_run), ("in a short run, by the byte loop", counter.cost_in_a_short_run)):
         ours, bytewise, by_memchr, by_avx2 = same(name, [cost(proved), cost(plain), cost(searching), cost(searching, WITH_AVX2)])
-        print(f"{name:32}{ours:9.2f}{bytewise:9.2f}{by_memchr:9.2f}{by_avx2:11.2f}")
+        print(f"{name:34}{ours:9.2f}{bytewise:9.2f}{by_memchr:9.2f}{by_avx2:11.2f}")
     listed, _ = counter.cost(lister, b"", b"x", *CAPTURE)
-    print(f"{'in a capture that is listed':32}{listed:9.2f}")
+    print(f"{'in a capture that is listed':34}{listed:9.2f}")
 
 
 def main():

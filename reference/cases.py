@@ -19,6 +19,7 @@ import places
 import records
 import request_letters
 import second_60
+import stray_runs
 import telegrams
 from days import Date, Time
 from encoding import (LAYOUT_NUMBERS, answer_numbers, case, count_numbers, date_bytes, event_numbers, layout_number, leitch_bytes,
@@ -676,6 +677,17 @@ def line_cases(dice):
         yield use_up_case(line.fresh(), piece)
 
 
+def stray_run_cases(dice):
+    """A run of stray bytes of each length, alone and before a telegram, fed to a reader whose two counts come to their end in it, at its
+    first byte, or just behind it."""
+    for length in stray_runs.LENGTHS:
+        run, telegram = stray_runs.run_of(dice, length), making.some_telegram(dice, True)
+        state = line.with_held(b"", *(-dice.randrange(length + 2) % line.WRAP for _ in range(2)))
+        for piece in (run, run + b"\x02", run + telegram):
+            yield feed_case(state, piece)
+        yield use_up_case(state, run + telegram + run)
+
+
 # --- the listing ---
 
 COUNTS = [0, 9, 10, 99, 100, 65535, 65536, 999999999, 1000000000, 4294967295]
@@ -811,3 +823,4 @@ def all_cases(seed=SEED):
     yield from leitch_and_request_cases(dice)
     yield from second_60_cases(dice)
     yield from second_60_on_lines(dice)
+    yield from stray_run_cases(dice)

@@ -47,7 +47,7 @@ loop-again c =
     let piece = c .before .before .before .before .before .before .args .piece .now in
     let at = c .before .before .before .before .loop .at in
     let none = sym (c .before .has-stx .ensures) ∙ c .if1 .left in
-    (omega arith, stray-block piece at (at + 64) (omega arith) (omega arith) none ∙ c .before .before .before .before .loop .inv .1)
+    (omega arith, stray-block piece at _ (omega arith) (omega arith) none ∙ c .before .before .before .before .loop .inv .1)
 
 returns-2 : tie.Need-returns-2 Inv-loop μ-loop
 returns-2 c = c .before .loop .inv .1
