@@ -1,6 +1,6 @@
 -- `line::skip::stray_blocks` meets its contract. The loop's invariant: what was skipped and what is left is the whole.
 use native.Mathlib.Omega.{arith}
-use mathlib.Core.Path.{_≡_, refl, sym, _∙_}
+use mathlib.Core.Path.{_≡_, sym, _∙_}
 use Prim.Native.Nat.{_+_, _-_, _≤_}
 use lib.ListN.{drop}
 use borrow.Author.Needs.{needs}
