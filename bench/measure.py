@@ -42,7 +42,7 @@ WORK = [
 ]
 
 # Stray bytes: in one long run of whole blocks of 64; in runs between telegrams that fill no such block, as the difference of two
-# lengths, which the proved reader takes by a loop over bytes, as it once took all; and in a capture of several of the lister's buffers.
+# lengths, which the proved reader takes by a loop over bytes; and in a capture of several of the lister's buffers.
 LONG = 300 * 64, 600 * 64
 SHORT = 8, 40
 CAPTURE = 4 * 65536, 8 * 65536

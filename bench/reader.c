@@ -1,5 +1,5 @@
 /* A plain C reader of the same telegrams, lines and logs, to be measured beside the proved one: the same seven layouts, the same
-   refusals, the same byte by byte reader, the same blocks. It takes what the program `measured` takes, and prints what that prints: a
+   refusals, the same line, the same blocks. It takes what the program `measured` takes, and prints what that prints: a
    letter, r, l, v or a, and then 6021 telegrams of 18 bytes to read, a line to feed, or a region to verify or to add to. Compiled
    with MEMCHR it skips stray bytes by the C library's memchr, and without it takes them one by one. */
 typedef unsigned char byte;

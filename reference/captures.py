@@ -190,4 +190,4 @@ def check_all(lines):
     """Fails where something that has to occur among all lines does not."""
     damaged = len(lines) - len(stray_runs.LENGTHS)
     check(lines[:damaged])
-    stray_runs.check(b"".join(pieces) for pieces in lines[damaged:])
+    stray_runs.check([b"".join(pieces) for pieces in lines[damaged:]])

@@ -678,11 +678,11 @@ def line_cases(dice):
 
 
 def stray_run_cases(dice):
-    """A run of stray bytes of each length, alone and before a telegram, fed to a reader whose two counts come to their end in it, at its
-    first byte, or just behind it."""
+    """A run of stray bytes of each length, alone and before a telegram, fed to a reader whose two counts wrap in it or at the byte
+    behind it."""
     for length in stray_runs.LENGTHS:
         run, telegram = stray_runs.run_of(dice, length), making.some_telegram(dice, True)
-        state = line.with_held(b"", *(-dice.randrange(length + 2) % line.WRAP for _ in range(2)))
+        state = line.with_held(b"", *(line.WRAP - 1 - dice.randrange(length + 1) for _ in range(2)))
         for piece in (run, run + b"\x02", run + telegram):
             yield feed_case(state, piece)
         yield use_up_case(state, run + telegram + run)

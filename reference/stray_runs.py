@@ -77,9 +77,11 @@ def runs_in(captured):
 
 
 def check(made):
-    """Fails where a capture lacks its runs, or where ETX is rare among all of them."""
+    """Fails where a length has no capture, where a capture lacks its runs, or where ETX is rare among all of them."""
+    if len(made) != len(LENGTHS):
+        raise AssertionError(f"{len(made)} captures with runs, where {len(LENGTHS)} are wanted")
     stray = b""
-    for length, captured in itertools.zip_longest(LENGTHS, made):
+    for length, captured in zip(LENGTHS, made):
         runs = list(runs_in(captured))
         before, between, behind = runs[0], runs[1:-1], runs[-1]
         places = {start % PLACES for start, run in between if len(run) == length}

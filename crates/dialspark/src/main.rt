@@ -71,8 +71,8 @@ fn next(capture: i32, printer: Printer, buffer: &mut [u8]) -> Turn {
     }
 }
 
-// Nothing says that the input ends, so the turns are counted down from a number that no run uses up. The buffer is made once
-// and lent to each, as a long capture would spend its time on making it.
+// Nothing says that the input ends, so the turns are counted down from a number that no run uses up. One buffer is lent to all of
+// them: to make it anew for each would take longer than to skip the stray bytes in it.
 fn list(capture: i32) {
     let mut buffer = io::large_buffer();
     let mut printer = Printer::start();

@@ -25,7 +25,7 @@ none-before [] = refl
 none-before (byte ∷ piece) = none-on (eqb byte stx) byte (strayRun piece) piece refl (none-before piece)
 
 pub the-run-ends-at-the-next-stx : TheRunEndsAtTheNextStx
-the-run-ends-at-the-next-stx piece = (none-before piece, stray-ends piece .1)
+the-run-ends-at-the-next-stx piece = (none-before piece, stray-ends piece .0, stray-ends piece .1)
 
 -- the run of the whole is what was skipped and the run of what is left
 module _ (fed stray : ℕ) (run rest : List ℕ) (none : hasStx run ≡ false) where

@@ -3,7 +3,7 @@
 use mathlib.Core.Bool.{false}
 use mathlib.Core.List.{List, [], _++_}
 use mathlib.Core.Path.{_≡_}
-use Prim.Native.Nat.{ℕ, _+_, _<_}
+use Prim.Native.Nat.{ℕ, _+_, _≤_, _<_}
 use lib.ListN.{length, take, getD}
 use Rattle.ascii.specs.Control.{stx}
 use Rattle.line.specs.declared.Fed.{Fed}
@@ -15,6 +15,7 @@ abbrev pub TheRunEndsAtTheNextStx : Type 0
 TheRunEndsAtTheNextStx =
     (piece : List ℕ)
     → (hasStx (take (strayRun piece) piece) ≡ false)
+    × (strayRun piece ≤ length piece)
     × (strayRun piece < length piece → getD piece (strayRun piece) 0 ≡ stx)
 
 -- the same call, so many bytes later

@@ -77,17 +77,34 @@ fn is_started(held: [u8; PLACES], len: usize) -> bool
     true
 }
 
-// Whether nothing but zeros stands from `len` on. No place ends the loop, so that the compiler compares many of them at once.
-fn is_zero_from(held: [u8; PLACES], len: usize) -> bool
-    ensures { λ r. ⌜ r ≡ allZero (drop len held) ⌝ }
+// Whether every place is zero. None of them ends the loop, so that the compiler compares many at once.
+fn is_zero(held: [u8; PLACES]) -> bool
+    ensures { λ r. ⌜ r ≡ allZero held ⌝ }
 {
     let mut zeros = true;
-    let mut at = len;
+    let mut at: usize = 0;
     while at < PLACES {
         zeros = zeros & (held[at] == 0);
         at += 1;
     }
     zeros
+}
+
+// Whether nothing but zeros stands from `len` on. Outside a telegram, where most calls are made, that is every place.
+fn is_zero_from(held: [u8; PLACES], len: usize) -> bool
+    ensures { λ r. ⌜ r ≡ allZero (drop len held) ⌝ }
+{
+    if len == 0 {
+        return is_zero(held);
+    }
+    let mut at = len;
+    while at < PLACES {
+        if held[at] != 0 {
+            return false;
+        }
+        at += 1;
+    }
+    true
 }
 
 // A count that wraps.

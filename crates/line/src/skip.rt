@@ -8,6 +8,7 @@ ghost use Rattle.line.specs.Runs.{beginsWithStx, hasStx, strayRun};
 // So many bytes are looked at together.
 const BLOCK: usize = 64;
 
+// Whether there is nothing to skip.
 pub(crate) fn begins_with_stx(piece: &[u8]) -> bool
     ensures { λ r. ⌜ r ≡ beginsWithStx (now (piece .entry)) ⌝ }
 {
