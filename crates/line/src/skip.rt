@@ -8,7 +8,7 @@ ghost use Rattle.line.specs.Runs.{beginsWithStx, hasStx, strayRun};
 // So many bytes are looked at together.
 const BLOCK: usize = 64;
 
-// Whether there is nothing to skip.
+// Whether a telegram begins with the first byte.
 pub(crate) fn begins_with_stx(piece: &[u8]) -> bool
     ensures { λ r. ⌜ r ≡ beginsWithStx (now (piece .entry)) ⌝ }
 {
