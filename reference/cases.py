@@ -21,6 +21,7 @@ import request_letters
 import second_60
 import stray_runs
 import telegrams
+import unnamed
 from days import Date, Time
 from encoding import (LAYOUT_NUMBERS, answer_numbers, case, count_numbers, date_bytes, event_numbers, layout_number, leitch_bytes,
                       line as printed, parameter_bytes, parameter_numbers, record_bytes, record_numbers, request_numbers, row_bytes,
@@ -466,11 +467,12 @@ def writes_of_bad_records(bad):
 
 
 def writes_around_the_edge(good):
-    """Records with each setting, into buffers from one byte short to one byte more, and into none."""
+    """Records with each setting, into buffers from one byte short to one byte more, and into none; with no setting into every one up
+    to two bytes more."""
     for record in good:
         for setting in SETTINGS:
-            size = 16 if setting is None else length(record.layout, setting.control_characters)
-            for room in (0, size - 1, size, size + 1):
+            size = unnamed.SIZE if setting is None else length(record.layout, setting.control_characters)
+            for room in range(size + 3) if setting is None else (0, size - 1, size, size + 1):
                 yield write_case(record, setting, room)
 
 
@@ -802,6 +804,109 @@ def any_row(dice):
     return lambda record: row_case(dice.choice(COUNTS), record, dice.choice([ROW, ROW, dice.randrange(ROW + 1)]))
 
 
+# --- no setting named ---
+
+def meter_cases():
+    """What the meter programs hand over, and a second 60 of the same layout: bare as they name it, and with no setting named."""
+    for record in [*unnamed.METER_RECORDS] + [record for record in second_60.one_of_each() if record.layout == "6021"]:
+        for room in (15, 16, 17, ONE):
+            yield write_case(record, unnamed.BARE, room)
+        for room in (0, *range(15, 21)):
+            yield write_case(record, None, room)
+    for setting, rooms in ((unnamed.BARE, (15, 16, 31, 32, 33, MANY)), (None, (17, 18, 32, 35, 36, 37, MANY))):
+        for room in rooms:
+            yield several_case([*unnamed.METER_RECORDS], setting, room)
+
+
+def unnamed_writes():
+    """Every status of every dated layout, told by the 6021's characters. Then what is refused whatever the buffer's length: records
+    without a date, and bad ones of every layout."""
+    for record in unnamed.with_every_status():
+        yield write_case(record, None, ONE)
+    for record, room in itertools.product(unnamed.without_date(), (0, 16, 17, 18, ONE)):
+        yield write_case(record, None, room)
+    bad = [record for _, record in unnamed.bad_ones()] + [*second_60.bad_ones()]
+    for record, room in itertools.product(bad, (0, 16, 18, ONE)):
+        yield write_case(record, None, room)
+
+
+# Buffers of no byte, around those of one, two and three telegrams, and the program's longest.
+SEVERAL_ROOMS = (0, 16, 17, 18, 35, 36, 37, 53, 54, 55, MANY)
+
+
+def several_unnamed(dice):
+    """Good records one behind another, up to one more than any buffer takes; then with one among them that is refused, behind as many
+    as the buffer takes, which tells its own number although there is no room; and behind one less and one more."""
+    def good_ones(number):
+        return [unnamed.good_by_dice(dice) for _ in range(number)]
+
+    for room, number in itertools.product(SEVERAL_ROOMS, range(5)):
+        yield several_case(good_ones(number), None, room)
+    refused = [*unnamed.without_date(), *unnamed.bad_of_each_number(), *second_60.bad_ones()]
+    for room, record in itertools.product(SEVERAL_ROOMS, refused):
+        full = room // unnamed.SIZE
+        for before in sorted({max(full - 1, 0), full, min(full + 1, 3)}):
+            yield several_case([*good_ones(before), record, *good_ones(1)], None, room)
+
+
+def fed_in_turn(pieces):
+    """A line in pieces from a fresh reader on: each fed until it is used up, every call to the state that the one before has left;
+    then the line's end."""
+    state = line.fresh()
+    for piece in pieces:
+        while True:
+            yield feed_case(state, piece)
+            state, taken, event = line.feed(state, piece)
+            piece = piece[taken:]
+            if event is None:
+                break
+    yield end_case(state)
+
+
+def used_up_in_turn(pieces):
+    """The same pieces with as many events at a call as are handed on at a time."""
+    state = line.fresh()
+    for piece in pieces:
+        while piece:
+            yield use_up_case(state, piece)
+            state, taken, _ = line.use_up(state, piece)
+            piece = piece[taken:]
+
+
+def on_a_line(captured, *cuts):
+    """A line that is cut at these places, by both calls."""
+    pieces = [captured[start:end] for start, end in zip([0, *cuts], [*cuts, len(captured)])]
+    yield from fed_in_turn(pieces)
+    yield from used_up_in_turn(pieces)
+
+
+def unnamed_on_lines(dice):
+    """What unnamed writes made, on a line: a telegram alone, whole and cut at each place; several one behind another, whole and cut
+    anywhere, also more than are handed on at a time. Bare telegrams beside them are stray bytes all through."""
+    dated_ones = [record for record in [*one_of_each(), *second_60.one_of_each()] if not records.is_time_only(record)]
+    for record in [*unnamed.METER_RECORDS] + dated_ones:
+        captured = unnamed.written([record])
+        yield from on_a_line(captured)
+        for cut in range(1, len(captured)):
+            yield from on_a_line(captured, cut)
+    for number in [2, 3, 4] * 6:
+        captured = unnamed.written([unnamed.good_by_dice(dice) for _ in range(number)])
+        yield from on_a_line(captured)
+        yield from on_a_line(captured, *sorted(dice.sample(range(1, len(captured)), dice.randrange(1, 5))))
+    yield from used_up_in_turn([unnamed.written([unnamed.good_by_dice(dice) for _ in range(line.AT_A_TIME + 3)])])
+    for record in unnamed.METER_RECORDS:
+        yield from on_a_line(telegrams.telegram_of(record, False))
+
+
+def unnamed_cases(dice):
+    """Writes without a named setting: of what the meter programs hand over, of every layout and status, of refused records, of several
+    records; and what became of them, read from a line."""
+    yield from meter_cases()
+    yield from unnamed_writes()
+    yield from several_unnamed(dice)
+    yield from unnamed_on_lines(dice)
+
+
 def all_cases(seed=SEED):
     """Every case, in the order in which the program gets them."""
     dice = random.Random(seed)
@@ -824,3 +929,4 @@ def all_cases(seed=SEED):
     yield from second_60_cases(dice)
     yield from second_60_on_lines(dice)
     yield from stray_run_cases(dice)
+    yield from unnamed_cases(dice)

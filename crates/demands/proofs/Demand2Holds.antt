@@ -87,7 +87,7 @@ demand-2-reads-back control rec room bytes e =
     write-reads-back (plain control) rec room bytes e ∙ judged-itself (refusalOf rec) rec (asked .0) (asked .1)
 
 -- and a 6021 is made of the record itself
-made-itself : (n : ℕ) (rec same : Record) → after (unless n rec) as6021 ≡ done same → after (unless n rec) as6021 ≡ as6021 rec
+pub made-itself : (n : ℕ) (rec same : Record) → after (unless n rec) as6021 ≡ done same → after (unless n rec) as6021 ≡ as6021 rec
 unfolding unless
 made-itself zero rec same e = refl
 made-itself (suc n) rec same e = let z : _≡_ {A = ℕ} 0 1 = cc in absurd (omega arith)

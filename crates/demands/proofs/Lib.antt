@@ -12,6 +12,7 @@ pub mod Demand3Holds
 pub mod BoundaryHolds
 pub mod SecondSixtyHolds
 pub mod TheLogHolds
+pub mod UnnamedWritesHold
 pub mod ShutOut
 pub mod ShutOutOfReplies
 pub mod ShutOutOfTheLog

@@ -1,5 +1,6 @@
 -- All that is printed holds, by the theorem of each table. Assumes nothing.
 use Rattle.layouts.proofs.AsPrintedHolds as layouts
+use Rattle.telegram.proofs.AsPrintedHolds as telegram
 use Rattle.record.proofs.AsPrintedHolds as records
 use Rattle.record.proofs.LastSixtyHolds.{last-as-printed}
 use Rattle.calendar.proofs.AsPrintedHolds as calendar
@@ -18,4 +19,4 @@ use Rattle.demands.proofs.BoundaryHolds.{boundary-table}
 
 pub all-is-as-printed : AllIsAsPrinted
 all-is-as-printed =
-    (layouts.as-printed, records.as-printed, calendar.month-starts-as-printed, calendar.calendar-as-printed, clock.as-printed, board.of-6036-as-printed, listing.listing-as-printed, pages.as-printed, boundary-table, calendar.days-of-the-year-as-printed, leitch.as-printed, every-as-printed, requests.requests-as-printed, records.sixties-as-printed, last-as-printed, last-step-as-printed, log.log-as-printed, listing.log-as-printed, logpages.as-printed)
+    (layouts.as-printed, records.as-printed, calendar.month-starts-as-printed, calendar.calendar-as-printed, clock.as-printed, board.of-6036-as-printed, listing.listing-as-printed, pages.as-printed, boundary-table, calendar.days-of-the-year-as-printed, leitch.as-printed, every-as-printed, requests.requests-as-printed, records.sixties-as-printed, last-as-printed, last-step-as-printed, log.log-as-printed, listing.log-as-printed, logpages.as-printed, telegram.as-printed)

@@ -111,10 +111,10 @@ in-room control rec room size e =
     ∙ unless-by _ (telegramOf control rec) (13 givenWhen ltb room size ∷ []) (ap (λ n. 13 when ltb room n) e ∙ sym (else-nothing (13 when ltb room size)))
 
 unnamed : (rec : Record) (room : ℕ)
-    → after (as6021 rec) (λ r. within room (done (telegramOf false r))) byFirst 13 givenWhen (carriesDate rec && ltb room 16) ∷ 14 givenWhen not (carriesDate rec) ∷ []
+    → after (as6021 rec) (λ r. within room (done (telegramOf true r))) byFirst 13 givenWhen (carriesDate rec && ltb room 18) ∷ 14 givenWhen not (carriesDate rec) ∷ []
 unfolding unless
 unnamed (Dated layout status weekday date time) room =
-    in-room false (Dated L6021 status weekday date time) room 16 (telegram-length false (Dated L6021 status weekday date time))
+    in-room true (Dated L6021 status weekday date time) room 18 (telegram-length true (Dated L6021 status weekday date time))
 unnamed (TimeOnly layout time) room = refl
 
 -- one thing after another, and another after it
@@ -155,8 +155,8 @@ writing-rules (Named setting) rec room = ap (λ o. after o (λ v. done tt)) (wri
         then-by (refusalOf rec) rec lays (recordRules rec) (12 givenWhen false ∷ short) (record-rules rec)
         (in-room control rec room _ (telegram-length control rec))
 writing-rules Unnamed rec room =
-    ap (λ o. after o (λ v. done tt)) (written-so Unnamed rec room ∙ after-both (judgedOf rec) as6021 (λ r. within room (done (telegramOf false r))))
-    ∙ then-by (refusalOf rec) rec (λ good. after (as6021 good) (λ r. within room (done (telegramOf false r)))) (recordRules rec) _ (record-rules rec) (unnamed rec room)
+    ap (λ o. after o (λ v. done tt)) (written-so Unnamed rec room ∙ after-both (judgedOf rec) as6021 (λ r. within room (done (telegramOf true r))))
+    ∙ then-by (refusalOf rec) rec (λ good. after (as6021 good) (λ r. within room (done (telegramOf true r)))) (recordRules rec) _ (record-rules rec) (unnamed rec room)
 
 -- a count of seconds, UTC seconds and the station clock
 no-date : (wrong outside : Bool) → outside ≡ false

@@ -88,10 +88,10 @@ WhatIsWrittenReadsBack =
     (control : Bool) (rec : Record) (room : ℕ) (bytes : List ℕ) → writes (plain control) rec room ≡ done bytes
     → reads control bytes ≡ done rec
 
--- (where no setting is named, as a 6021 with the same fields)
+-- (where no setting is named, with control characters, as a 6021 with the same fields: document 02, e)
 abbrev pub WhatIsWrittenWithoutASettingReadsBack : Type 0
 WhatIsWrittenWithoutASettingReadsBack =
-    (rec : Record) (room : ℕ) (bytes : List ℕ) → writes Unnamed rec room ≡ done bytes → reads false bytes ≡ as6021 rec
+    (rec : Record) (room : ℕ) (bytes : List ℕ) → writes Unnamed rec room ≡ done bytes → reads true bytes ≡ as6021 rec
 
 -- "written with second advance, it reads back as the next second."
 abbrev pub WrittenWithAdvanceItReadsBackAsTheNextSecond : Type 0

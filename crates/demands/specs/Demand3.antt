@@ -7,6 +7,7 @@ use Rattle.record.specs.declared.Record.{Record}
 use Rattle.record.specs.Rule.{refusalOf}
 use Rattle.line.specs.declared.Reader.{Reader}
 use Rattle.line.specs.declared.Fed.{Fed}
+use Rattle.line.specs.declared.Heard.{Heard}
 use Rattle.line.specs.declared.Heard.the-variants.{Nothing}
 use Rattle.line.specs.Line.{freshReader, endReader}
 use Rattle.line.specs.Cuts.{Calls, feeding, Served, bytesServed, heardOf, readerBehind, AllUsedUp, serve}
@@ -28,15 +29,20 @@ NoStxAround (sent ∷ others) behind = (noStx (sent .before) ≡ true) × NoStxA
 
 -- "Cut that line anywhere, and feed it to a fresh reader, each piece until it is used up."
 -- (a `Served` is a piece with the number of calls made on it; `AllUsedUp` says that after those calls nothing of it is left)
+-- What comes back then of a line, however it was cut: events, a stray count, and nothing at the end of the line.
+abbrev pub GivesBack : (Reader → List ℕ → Calls) → List ℕ → List Heard → ℕ → Type 0
+GivesBack call bytes events stray =
+    (served : List Served) → bytesServed served ≡ bytes → AllUsedUp call freshReader served
+    → (heardOf call freshReader served ≡ events)
+    × (readerBehind call freshReader served .stray ≡ stray)
+    × (endReader (readerBehind call freshReader served) .heard ≡ Nothing)
+
 -- "The reader hands back that list, no record more or fewer, no refusal, and the true number of stray bytes, counted modulo
 -- 4,294,967,296." (`eventsSent` is that list: the records in their order, each with its position and length)
 abbrev pub HandsBack : (Reader → List ℕ → Calls) → Type 0
 HandsBack call =
     (sents : List Sent) (behind : List ℕ) → GoodTelegrams sents → NoStxAround sents behind
-    → (served : List Served) → bytesServed served ≡ bytesSent sents behind → AllUsedUp call freshReader served
-    → (heardOf call freshReader served ≡ eventsSent 0 sents)
-    × (readerBehind call freshReader served .stray ≡ straySent sents behind % 4294967296)
-    × (endReader (readerBehind call freshReader served) .heard ≡ Nothing)
+    → GivesBack call (bytesSent sents behind) (eventsSent 0 sents) (straySent sents behind % 4294967296)
 
 abbrev pub HandsBackThatList : (Reader → List ℕ → Fed) → Type 0
 HandsBackThatList feed = HandsBack (feeding feed)

@@ -17,4 +17,5 @@ pub mod WrongOfTheLog
 pub mod Boundary
 pub mod SecondSixty
 pub mod TheLog
+pub mod UnnamedWrites
 pub mod PrintedTables

@@ -2,6 +2,7 @@
 -- literal rows in the crate whose definitions it pins (its file is specs/AsPrinted.antt), so that a swap made in definition and code
 -- together is refused there. This page names them all, to be held beside the documents.
 use Rattle.layouts.specs.AsPrinted.{TheTablesAreAsPrinted}
+use Rattle.telegram.specs.AsPrinted.{WritesAreAsPrinted}
 use Rattle.record.specs.AsPrinted.{RecordsAreAsPrinted, SixtiesAreAsPrinted, TheLastSixtyIsAsPrinted}
 use Rattle.calendar.specs.AsPrinted.{TheMonthStartsAreAsPrinted, TheCalendarIsAsPrinted, TheDaysOfTheYearAreAsPrinted}
 use Rattle.clock.specs.AsPrinted.{StepsAreAsPrinted, TheLastSixtyIsAsPrinted as TheLastStepIsAsPrinted}
@@ -49,3 +50,5 @@ AllIsAsPrinted =
     × TheLogIsAsPrinted
     × TheLogsListingsAreAsPrinted
     × TheListingsOfALogAreAsPrinted
+    -- "Refusal numbers", and document 02, e: what each setting writes, and none; buffers of each length around 18
+    × WritesAreAsPrinted

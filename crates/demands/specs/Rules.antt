@@ -1,4 +1,4 @@
--- Document 01, "Refusal numbers", and document 02, b: for each entry point its rows of the table, "given exactly when", in the order of their numbers.
+-- Document 01, "Refusal numbers", and document 02, b and e: for each entry point its rows of the table, "given exactly when", in the order of their numbers.
 use mathlib.Core.Bool.{Bool, false, not, _&&_, _||_}
 use mathlib.Core.List.{List, [], _∷_, _++_, map}
 use Prim.Native.Nat.{ℕ, _+_, _*_}
@@ -70,8 +70,8 @@ readingRules control bytes =
 abbrev pub nextSecondRules : Record → List Rule
 nextSecondRules rec = recordRules rec ++ 12 givenWhen isLastOfCalendar rec ∷ []
 
--- writing: 13 "the lent buffer is shorter than what is to be written"; without a named setting a 6021 is written, whose 16 bytes
--- need a date: 14 "a date is needed and the layout carries none"
+-- writing: 13 "the lent buffer is shorter than what is to be written"; without a named setting a 6021 is written with control
+-- characters, whose 18 bytes need a date: 14 "a date is needed and the layout carries none"
 abbrev pub writingRules : Choice → Record → ℕ → List Rule
 writingRules (Named setting) rec room =
     recordRules rec
@@ -79,7 +79,7 @@ writingRules (Named setting) rec room =
     ∷ 13 givenWhen ltb room (lengthOf (setting .control) (ownLayout rec))
     ∷ []
 writingRules Unnamed rec room =
-    recordRules rec ++ 13 givenWhen (carriesDate rec && ltb room 16) ∷ 14 givenWhen not (carriesDate rec) ∷ []
+    recordRules rec ++ 13 givenWhen (carriesDate rec && ltb room 18) ∷ 14 givenWhen not (carriesDate rec) ∷ []
 
 -- the count of a record's seconds: 12 for a second 60 that none follows, 14 "a date is needed and the layout carries none"
 abbrev pub countRules : Record → List Rule

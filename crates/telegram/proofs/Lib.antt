@@ -5,3 +5,4 @@ pub mod Frames
 pub mod BackAndForth
 pub mod ReadsBack
 pub mod Whole
+pub mod AsPrintedHolds

@@ -73,7 +73,7 @@ pub plain-reads-back : (setting : Setting) (rec : Record) (room : ℕ) (bytes : 
 plain-reads-back setting rec room bytes off e =
     write-reads-back (Named setting) rec room bytes e ∙ ap (λ advance. cond advance (nextSecondOf rec) (judgedOf rec)) off
 
--- (d) without a named setting it reads back, as a 6021, with every field that 6021 carries
+-- (d) without a named setting it reads back, with control characters, as a 6021 with every field that 6021 carries
 pub unnamed-reads-back : (rec : Record) (room : ℕ) (bytes : List ℕ) → written Unnamed rec room ≡ done bytes
-    → readOf false bytes ≡ after (judgedOf rec) as6021
+    → readOf true bytes ≡ after (judgedOf rec) as6021
 unnamed-reads-back rec room bytes e = write-reads-back Unnamed rec room bytes e

@@ -1,5 +1,5 @@
--- Document 01, "Refusal numbers": writing one telegram, and several one behind another.
-use mathlib.Core.Bool.{Bool, false, cond}
+-- Document 01, "Refusal numbers", and document 02, e: writing one telegram, and several one behind another.
+use mathlib.Core.Bool.{Bool, true, cond}
 use mathlib.Core.List.{List, [], _∷_, _++_}
 use Prim.Native.Nat.{ℕ, _+_, _-_, _%_, _^_}
 use lib.ListN.{length, take, drop}
@@ -44,10 +44,10 @@ abbrev pub recordToWrite : Choice → Record → Outcome Record
 recordToWrite (Named setting) rec = cond (setting .advance) (nextSecondOf rec) (judgedOf rec)
 recordToWrite Unnamed rec = after (judgedOf rec) as6021
 
--- and whether with control characters: unnamed "without"
+-- and whether with control characters; document 02, e: "an unnamed setting now means 6021 with control characters"
 abbrev pub controlOf : Choice → Bool
 controlOf (Named setting) = setting .control
-controlOf Unnamed = false
+controlOf Unnamed = true
 
 -- the telegram that a choice makes of a record, or why there is none: 5 to 8, 12, 14
 unfoldable pub telegramFor : Choice → Record → Outcome (List ℕ)

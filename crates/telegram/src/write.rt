@@ -23,7 +23,7 @@ pub struct Setting {
     pub advance: bool,
 }
 
-// What a caller asks for: a setting by name, or none.
+// What a caller asks for: a setting by name, or none, which is a 6021 between STX and ETX without second advance.
 pub enum Choice {
     Named(Setting),
     Unnamed,
@@ -79,12 +79,13 @@ fn record_to_write(choice: Choice, rec: Record) -> RecordAnswer
     }
 }
 
+// STX and ETX are written unless a setting says otherwise.
 fn control_of(choice: Choice) -> bool
     ensures { λ r. ⌜ r ≡ controlOf choice ⌝ }
 {
     match choice {
         Choice::Named(setting) => setting.control,
-        Choice::Unnamed => false,
+        Choice::Unnamed => true,
     }
 }
 

@@ -1,0 +1,259 @@
+-- Document 02, e, holds. Assumes nothing.
+use mathlib.Core.Path.{_≡_, refl, ap, ap₂, sym, _∙_}
+use mathlib.Core.Bool.{Bool, true, false, not, _&&_}
+use mathlib.Core.List.{List, [], _∷_, _++_, map, append-nil}
+use Prim.Native.Nat.{ℕ, zero, suc, _+_, _-_, _*_, _%_, _^_, _≤_, _<_}
+use native.Mathlib.Nat.{add-zero, zero-add}
+use native.Mathlib.Omega.{arith}
+use lib.Dec.{eqb}
+use lib.ListN.{length, take, drop, length-append}
+use lib.Seq.{take-at}
+use Rattle.refusals.specs.Refusals.{Outcome, done, refused, unless, after}
+use Rattle.refusals.proofs.Laws.{both, does, refuses}
+use Rattle.laying.specs.declared.Ending.{Ending}
+use Rattle.laying.specs.declared.Ending.the-variants.{Whole}
+use Rattle.laying.specs.Laying.{within, laid}
+use Rattle.laying.specs.OneBehindAnother.{Standing, joined, partThen, oneBehindAnother}
+use Rattle.laying.proofs.LayingLaws.{within-short, within-fits, within-refused, within-done}
+use Rattle.laying.proofs.OneBehindAnotherLaws.{no-part, first-part}
+use Rattle.ascii.specs.Control.{stx, etx}
+use Rattle.places.specs.Places.{codeCharacter, render}
+use Rattle.calendar.specs.Calendar.{isLeap, monthLength, monthInRange, dateInRange, dayExists, monthStart, dayOf}
+use Rattle.calendar.specs.TimeOfDay.{timeInRange}
+use Rattle.record.specs.declared.DatedLayout.{DatedLayout}
+use Rattle.record.specs.declared.DatedLayout.the-variants.{L6021}
+use Rattle.record.specs.declared.Record.{Record}
+use Rattle.record.specs.declared.Record.the-variants.{Dated, TimeOnly}
+use Rattle.record.specs.declared.RecordAnswer.the-variants as answer
+use Rattle.record.specs.Rule.{statusAllowed, weekdayAllowed, weekdayAgrees, timeAllowed, datedRefusal, refusalOf}
+use Rattle.layouts.specs.declared.Layout.the-variants as layouts
+use Rattle.layouts.specs.Layouts.{placesOf, ownLayout}
+use Rattle.layouts.specs.Coding.{statusOut6021}
+use Rattle.telegram.specs.declared.write.Choice.the-variants.{Unnamed}
+use Rattle.telegram.specs.declared.several.Several.{Several}
+use Rattle.telegram.specs.Writing.{bodyBytes, telegramOf, as6021, judgedOf, recordToWrite, telegramFor, nextTelegram, telegramsIn, withMore, unlessEnded, severalAfter}
+use Rattle.telegram.proofs.WriteLaws.{telegram-refused, telegram-made}
+use Rattle.telegram.proofs.ReadsBack.{written-is-good}
+use Rattle.telegram.proofs.SeveralLaws.{stood-as, several-stand}
+use Rattle.line.specs.declared.Reader.{Reader}
+use Rattle.line.specs.declared.Heard.the-variants.{Event}
+use Rattle.line.specs.Line.{isPlain, allPlain}
+use Rattle.line.specs.Cuts.{Calls}
+use Rattle.line.specs.SentLine.{Sent, bytesSent, noStx, eventsSent, straySent}
+use Rattle.line.proofs.SentLaws.{plain-body}
+use Rattle.demands.specs.Lengths.{lengthOf}
+use Rattle.demands.specs.Demand2.{Good, plain}
+use Rattle.demands.specs.Demand3.{GoodTelegrams, NoStxAround, GivesBack, HandsBack}
+use Rattle.demands.specs.UnnamedWrites.{unnamedBefore, nextBefore, severalBefore, TheBytesOfBeforeBetweenStxAndEtx, BeforeAllBytesWereStray, TheLineReaderSeesIt, UnnamedMeans6021WithControlCharacters, ItHas18Bytes, TimeAloneIsStill14, TheRecordsOwnComesFirst, AreThe6021FormsOf, everyEighteen, SeveralFollow, Is6021, Are6021, NamedBareDoesWhatUnnamedDid, SeveralNamedBareDoSo, UnnamedWritesAreAsAskedFor}
+use Rattle.demands.proofs.TableLengths.{telegram-length}
+use Rattle.demands.proofs.Demand2Holds.{made-itself}
+use Rattle.demands.proofs.Demand3Holds.{demand-3-hands-back-that-list, demand-3-using-up-hands-back}
+
+between : TheBytesOfBeforeBetweenStxAndEtx
+unfolding telegramFor
+between rec room = ap (within room) (go (recordToWrite Unnamed rec))
+  where
+    go : (o : Outcome Record)
+        → after o (λ r. done (telegramOf true r)) ≡ after (after o (λ r. done (telegramOf false r))) (λ body. done (stx ∷ body ++ etx ∷ []))
+    go (done r) = refl
+    go (refused n) = refl
+
+-- a record's 6021 form is a 6021
+form-layout : (rec form : Record) → as6021 rec ≡ done form → Is6021 form
+form-layout (Dated layout status weekday date time) form e =
+    let is : Dated L6021 status weekday date time ≡ form = cc in ap ownLayout (sym is)
+form-layout (TimeOnly layout time) form e = let z : _≡_ {A = ℕ} 0 1 = cc in absurd (omega arith)
+
+-- of a good record with a date the telegram of its 6021 form is written, which is good too
+module _ (rec form : Record) (good : Good rec) (is : as6021 rec ≡ done form) where
+  asked : recordToWrite Unnamed rec ≡ done form
+  asked = ap (λ o. after o as6021) (does rec good) ∙ is
+
+  form-good : Good form
+  form-good = written-is-good Unnamed rec form asked
+
+  made : telegramFor Unnamed rec ≡ done (telegramOf true form)
+  made = telegram-made Unnamed rec true form asked refl
+
+  eighteen : length (telegramOf true form) ≡ 18
+  eighteen = telegram-length true form ∙ ap (lengthOf true) (form-layout rec form is)
+
+means : UnnamedMeans6021WithControlCharacters
+means layout status weekday date time good room =
+    let rec = Dated layout status weekday date time in
+    let form = Dated L6021 status weekday date time in
+    ap (within room) (made rec form good refl ∙ sym (telegram-made (plain true) form true form (does form (form-good rec form good refl)) refl))
+
+has-18-bytes : ItHas18Bytes
+has-18-bytes layout status weekday date time good =
+    let rec = Dated layout status weekday date time in
+    let form = Dated L6021 status weekday date time in
+    let size = eighteen rec form good refl in (
+      size,
+      λ room fits. ap (within room) (made rec form good refl) ∙ within-fits room (telegramOf true form) (omega (arith, size)),
+      λ room short. ap (within room) (made rec form good refl) ∙ within-short room (telegramOf true form) (omega (arith, size)),
+    )
+
+-- what is refused has no telegram, whatever the room
+no-telegram : (rec : Record) (n room : ℕ) → recordToWrite Unnamed rec ≡ refused n → within room (telegramFor Unnamed rec) ≡ refused n
+no-telegram rec n room e = ap (within room) (telegram-refused Unnamed rec n e) ∙ within-refused room n
+
+time-alone : TimeAloneIsStill14
+time-alone layout time room good = no-telegram (TimeOnly layout time) 14 room (ap (λ o. after o as6021) (does (TimeOnly layout time) good))
+
+own-first : TheRecordsOwnComesFirst
+own-first rec room bad = no-telegram rec (refusalOf rec) room (ap (λ o. after o as6021) (sym (refuses rec refl bad)))
+
+-- The line. 6021 forms one behind another, as demand 3 has them: nothing before each.
+alone : Record → Sent
+alone form = record { before = []; rec = form }
+
+sent-bytes : (forms : List Record) → bytesSent (map alone forms) [] ≡ joined (map (telegramOf true) forms)
+unfolding alone
+sent-bytes [] = refl
+sent-bytes (form ∷ forms) = ap (_++_ (telegramOf true form)) (sent-bytes forms)
+
+no-stray : (forms : List Record) → straySent (map alone forms) [] ≡ 0
+unfolding alone
+no-stray [] = refl
+no-stray (form ∷ forms) = zero-add (straySent (map alone forms) []) ∙ no-stray forms
+
+nothing-around : (forms : List Record) → NoStxAround (map alone forms) []
+unfolding alone
+nothing-around [] = refl
+nothing-around (form ∷ forms) = (refl, nothing-around forms)
+
+all-good : (forms recs : List Record) → AreThe6021FormsOf forms recs → GoodTelegrams (map alone forms)
+unfolding alone
+all-good [] [] are = tt
+all-good (form ∷ forms) (rec ∷ recs) are = (form-good rec form (are .0) (are .1), all-good forms recs (are .2))
+all-good [] (rec ∷ recs) are = tt
+all-good (form ∷ forms) [] are = absurd are
+
+events : (from : ℕ) (forms recs : List Record) → AreThe6021FormsOf forms recs → eventsSent from (map alone forms) ≡ everyEighteen from forms
+unfolding alone
+events from [] [] are = refl
+events from (form ∷ forms) (rec ∷ recs) are =
+    let size = eighteen rec form (are .0) (are .1) in
+    let next : from + 0 + length (telegramOf true form) ≡ from + 18 = omega (arith, size) in
+    ap₂ (λ start n. Event (answer.Good form) (start % 2 ^ 32) n ∷ eventsSent (from + 0 + length (telegramOf true form)) (map alone forms)) (add-zero from) size
+    ∙ ap (λ k. Event (answer.Good form) (from % 2 ^ 32) 18 ∷ eventsSent k (map alone forms)) next
+    ∙ ap (λ heard. Event (answer.Good form) (from % 2 ^ 32) 18 ∷ heard) (events (from + 18) forms recs (are .2))
+events from [] (rec ∷ recs) are = refl
+events from (form ∷ forms) [] are = absurd are
+
+-- a body has no STX
+plain-no-stx : (bytes : List ℕ) → allPlain bytes ≡ true → noStx bytes ≡ true
+plain-no-stx [] plain = refl
+plain-no-stx (byte ∷ bytes) plain =
+    let parts = both (isPlain byte) (allPlain bytes) plain in
+    rw (both (not (eqb byte stx)) _ (parts .0) .0, plain-no-stx bytes (parts .1))
+
+-- by any call that hands back what demand 3 says
+module _ (call : Reader → List ℕ → Calls) (demand : HandsBack call) where
+  forms-come-back : (forms recs : List Record) → AreThe6021FormsOf forms recs → GivesBack call (joined (map (telegramOf true) forms)) (everyEighteen 0 forms) 0
+  forms-come-back forms recs are served cut used =
+      let back = demand (map alone forms) [] (all-good forms recs are) (nothing-around forms) served (cut ∙ sym (sent-bytes forms)) used in
+      (back .0 ∙ events 0 forms recs are, back .1 ∙ ap (λ n. n % 4294967296) (no-stray forms), back .2)
+
+  sees-it : TheLineReaderSeesIt call
+  sees-it layout status weekday date time good room bytes e served cut used =
+      let rec = Dated layout status weekday date time in
+      let form = Dated L6021 status weekday date time in
+      let told : telegramFor Unnamed rec ≡ done bytes = within-done room (telegramFor Unnamed rec) bytes e .0 in
+      let same : done (telegramOf true form) ≡ done bytes = sym (made rec form good refl) ∙ told in
+      let is : telegramOf true form ≡ bytes = cc in
+      forms-come-back (form ∷ []) (rec ∷ []) (good, refl, tt) served (cut ∙ sym is ∙ sym (append-nil (telegramOf true form))) used
+
+  -- what was written before is the body of a 6021
+  was-stray : BeforeAllBytesWereStray call
+  was-stray rec bytes = go (after (judgedOf rec) as6021) refl
+    where
+      go : (o : Outcome Record) → after (judgedOf rec) as6021 ≡ o → after o (λ r. done (telegramOf false r)) ≡ done bytes → GivesBack call bytes [] 16
+      go (done form) is e = λ served cut used.
+          let body : bodyBytes form ≡ bytes = cc in
+          let a-6021 = form-layout rec form (sym (made-itself (refusalOf rec) rec form is) ∙ is) in
+          let size : length bytes ≡ 16 = ap length (sym body) ∙ telegram-length false form ∙ ap (lengthOf false) a-6021 in
+          let back = demand [] bytes tt (ap noStx (sym body) ∙ plain-no-stx (bodyBytes form) (plain-body form)) served cut used in
+          (back .0, back .1 ∙ ap (λ n. n % 4294967296) size, back .2)
+      go (refused n) is e = let z : _≡_ {A = ℕ} 0 1 = cc in absurd (omega arith)
+
+-- Several, where there is room for all.
+all-stand : (forms recs : List Record) → AreThe6021FormsOf forms recs → (room : ℕ) → 18 * length recs ≤ room
+    → telegramsIn Unnamed room recs ≡ record { parts = map (telegramOf true) forms; left = []; ending = Whole }
+all-stand [] [] are room fits = no-part (nextTelegram Unnamed) 0 room [] refl
+all-stand (form ∷ forms) (rec ∷ recs) are room fits =
+    let size = eighteen rec form (are .0) (are .1) in
+    let rest = all-stand forms recs (are .2) (room - length (telegramOf true form)) (omega (arith, size)) in
+    first-part (nextTelegram Unnamed) (length recs) room (rec ∷ recs) (telegramFor Unnamed rec) recs refl
+    ∙ ap (λ o. partThen o (rec ∷ recs) (λ bytes. oneBehindAnother (nextTelegram Unnamed) (length recs) (room - length bytes) recs))
+    (ap (within room) (made rec form (are .0) (are .1)) ∙ within-fits room (telegramOf true form) (omega (arith, size)))
+    ∙ ap (λ later. record { parts = telegramOf true form ∷ later .parts; left = later .left; ending = later .ending }) rest
+all-stand [] (rec ∷ recs) are room fits = absurd are
+all-stand (form ∷ forms) [] are room fits = absurd are
+
+as-many : (forms recs : List Record) → AreThe6021FormsOf forms recs → length (map (telegramOf true) forms) ≡ length recs
+as-many [] [] are = refl
+as-many (form ∷ forms) (rec ∷ recs) are = ap suc (as-many forms recs (are .2))
+as-many [] (rec ∷ recs) are = absurd are
+as-many (form ∷ forms) [] are = absurd are
+
+eighteen-each : (forms recs : List Record) → AreThe6021FormsOf forms recs → length (joined (map (telegramOf true) forms)) ≡ 18 * length recs
+eighteen-each [] [] are = refl
+eighteen-each (form ∷ forms) (rec ∷ recs) are =
+    let here = eighteen rec form (are .0) (are .1) in
+    let on = eighteen-each forms recs (are .2) in
+    omega (arith, length-append (telegramOf true form) (joined (map (telegramOf true) forms)), here, on)
+eighteen-each [] (rec ∷ recs) are = absurd are
+eighteen-each (form ∷ forms) [] are = absurd are
+
+module _ (call : Reader → List ℕ → Calls) (demand : HandsBack call) where
+  several-follow : SeveralFollow call
+  several-follow recs forms buffer are room =
+      let all = joined (map (telegramOf true) forms) in
+      let size = eighteen-each forms recs are in
+      let stand = several-stand Unnamed recs buffer ∙ ap (λ standing. stood-as standing buffer) (all-stand forms recs are (length buffer) room) in
+      let written = ap (λ s. take (18 * length recs) (s .1)) stand ∙ take-at all (drop (length all) buffer) (18 * length recs) size in (
+        ap (λ s. s .0) stand ∙ (λ i. record { count = as-many forms recs are i % 2 ^ 64; used = size i; ending = Whole }),
+        λ served cut used. forms-come-back call demand forms recs are served (cut ∙ written) used,
+      )
+
+-- The meter programs: a 6021 record is its own 6021 form.
+bare-as-before : (rec : Record) → Is6021 rec → telegramFor (plain false) rec ≡ unnamedBefore rec
+unfolding unless telegramFor
+bare-as-before (Dated layout status weekday date time) is =
+    let same : layout ≡ L6021 = cc in
+    rw same (go (Dated L6021 status weekday date time) refl (refusalOf (Dated L6021 status weekday date time)))
+  where
+    go : (rec : Record) → as6021 rec ≡ done rec → (n : ℕ) → after (unless n rec) (λ r. done (telegramOf false r)) ≡ after (after (unless n rec) as6021) (λ r. done (telegramOf false r))
+    go rec itself zero = ap (λ o. after o (λ r. done (telegramOf false r))) (sym itself)
+    go rec itself (suc n) = refl
+bare-as-before (TimeOnly layout time) is = let z : _≡_ {A = ℕ} 0 1 = cc in absurd (omega arith)
+
+does-what-unnamed-did : NamedBareDoesWhatUnnamedDid
+does-what-unnamed-did rec buffer is = ap (λ o. laid o buffer) (bare-as-before rec is)
+
+stand-as-before : (n room : ℕ) (recs : List Record) → Are6021 recs → oneBehindAnother (nextTelegram (plain false)) n room recs ≡ oneBehindAnother nextBefore n room recs
+unfolding oneBehindAnother
+stand-as-before zero room recs are = refl
+stand-as-before (suc n) room [] are = refl
+stand-as-before (suc n) room (rec ∷ recs) are =
+    ap (λ o. partThen (within room o) (rec ∷ recs) (λ bytes. oneBehindAnother (nextTelegram (plain false)) n (room - length bytes) recs)) (bare-as-before rec (are .0))
+    ∙ go (within room (unnamedBefore rec)) (λ less. stand-as-before n less recs (are .1))
+  where
+    go : (o : Outcome (List ℕ)) → ((less : ℕ) → oneBehindAnother (nextTelegram (plain false)) n less recs ≡ oneBehindAnother nextBefore n less recs)
+        → partThen o (rec ∷ recs) (λ bytes. oneBehindAnother (nextTelegram (plain false)) n (room - length bytes) recs)
+        ≡ partThen o (rec ∷ recs) (λ bytes. oneBehindAnother nextBefore n (room - length bytes) recs)
+    go (done bytes) on = ap (λ later. record { parts = bytes ∷ later .parts; left = later .left; ending = later .ending }) (on (room - length bytes))
+    go (refused number) on = refl
+
+several-do-so : SeveralNamedBareDoSo
+unfolding severalAfter
+several-do-so several recs buffer are =
+    ap (λ standing. unlessEnded (several .ending) (withMore several buffer standing) (several, buffer))
+    (stand-as-before (length recs) (length buffer - several .used) recs are)
+
+pub unnamed-writes : UnnamedWritesAreAsAskedFor
+unfolding unless within codeCharacter render isLeap monthLength monthInRange dateInRange dayExists monthStart dayOf timeInRange timeAllowed statusAllowed weekdayAllowed weekdayAgrees datedRefusal placesOf statusOut6021 bodyBytes telegramFor
+unnamed-writes =
+    (between, was-stray _ demand-3-hands-back-that-list, was-stray _ demand-3-using-up-hands-back, sees-it _ demand-3-hands-back-that-list, sees-it _ demand-3-using-up-hands-back, means, has-18-bytes, time-alone, own-first, several-follow _ demand-3-hands-back-that-list, several-follow _ demand-3-using-up-hands-back, does-what-unnamed-did, several-do-so, ((refl, refl), ((refl, refl), tt)))

@@ -1,0 +1,161 @@
+-- Document 02, e, "Writes carry STX and ETX unless told otherwise", sentence by sentence. When a write is refused stands in the rules of
+-- demand 1, that an unnamed one reads back with control characters in demand 2, and literal bytes in telegram/specs/AsPrinted.antt.
+use mathlib.Core.Bool.{true, false}
+use mathlib.Core.List.{List, [], _∷_, _++_, map}
+use mathlib.Core.Path.{_≡_}
+use Prim.Native.Nat.{ℕ, _+_, _-_, _*_, _%_, _^_, _≤_, _<_}
+use lib.ListN.{length, take}
+use Rattle.refusals.specs.Refusals.{Outcome, done, refused, after}
+use Rattle.refusals.specs.Tables.{EachHolds}
+use Rattle.laying.specs.declared.Ending.the-variants.{Whole}
+use Rattle.laying.specs.Laying.{within, laid}
+use Rattle.laying.specs.OneBehindAnother.{Next, nothing, part, oneBehindAnother}
+use Rattle.ascii.specs.Ascii.{ascii}
+use Rattle.ascii.specs.Control.{stx, etx, lfCr}
+use Rattle.calendar.specs.Literals.{date, time}
+use Rattle.calendar.specs.declared.date.Date.{Date}
+use Rattle.calendar.specs.declared.time.Time.{Time}
+use Rattle.record.specs.declared.DatedLayout.{DatedLayout}
+use Rattle.record.specs.declared.DatedLayout.the-variants.{L6021}
+use Rattle.record.specs.declared.TimeLayout.{TimeLayout}
+use Rattle.record.specs.declared.Status.{Status}
+use Rattle.record.specs.declared.Record.{Record}
+use Rattle.record.specs.declared.Record.the-variants.{Dated, TimeOnly}
+use Rattle.record.specs.declared.RecordAnswer.the-variants as answer
+use Rattle.record.specs.Rule.{refusalOf}
+use Rattle.layouts.specs.declared.Layout.the-variants as layouts
+use Rattle.layouts.specs.Layouts.{ownLayout}
+use Rattle.telegram.specs.declared.write.Choice.the-variants.{Unnamed}
+use Rattle.telegram.specs.declared.several.Several.{Several}
+use Rattle.telegram.specs.Writing.{telegramOf, as6021, judgedOf, telegramFor, noneYet, withMore, unlessEnded, severalAfter, severalAll}
+use Rattle.line.specs.declared.Reader.{Reader}
+use Rattle.line.specs.declared.Heard.{Heard}
+use Rattle.line.specs.declared.Heard.the-variants.{Event}
+use Rattle.line.specs.Cuts.{Calls, feeding}
+use Rattle.line.specs.Pieces.{usingUp}
+use Rattle.demands.specs.Programs.{writes, feeds}
+use Rattle.demands.specs.Boundary.{highDaylight, highUtc}
+use Rattle.demands.specs.Demand2.{Good, plain}
+use Rattle.demands.specs.Demand3.{GivesBack}
+
+-- What an unnamed write was before this request, and several of them: document 01, "a write is 6021 whatever layout the record has,
+-- without control characters, without second advance; a time-only record then gives 14". For this page alone.
+abbrev pub unnamedBefore : Record → Outcome (List ℕ)
+unnamedBefore rec = after (after (judgedOf rec) as6021) (λ r. done (telegramOf false r))
+
+abbrev pub nextBefore : List Record → Next (List Record)
+nextBefore [] = nothing
+nextBefore (rec ∷ recs) = part (unnamedBefore rec) recs
+
+abbrev pub severalBefore : Several → List Record → List ℕ → Several × List ℕ
+severalBefore several recs buffer =
+    unlessEnded (several .ending)
+    (withMore several buffer (oneBehindAnother nextBefore (length recs) (length buffer - several .used) recs)) (several, buffer)
+
+-- "Writes carry STX and ETX": of every record, in every buffer, the bytes of before are written between them. So its refusals are those of
+-- before, but that two bytes more need room; and the bytes of before are had by leaving the two out.
+abbrev pub TheBytesOfBeforeBetweenStxAndEtx : Type 0
+TheBytesOfBeforeBetweenStxAndEtx =
+    (rec : Record) (room : ℕ) → writes Unnamed rec room ≡ within room (after (unnamedBefore rec) (λ body. done (stx ∷ body ++ etx ∷ [])))
+
+-- "New staff forget to ask, and the line reader sees only stray bytes": so it was
+abbrev pub BeforeAllBytesWereStray : (Reader → List ℕ → Calls) → Type 0
+BeforeAllBytesWereStray call = (rec : Record) (bytes : List ℕ) → unnamedBefore rec ≡ done bytes → GivesBack call bytes [] 16
+
+-- any good record with a date, and its 6021 form, which has the same fields
+abbrev pub EachGoodDated : (Record → Record → Type 0) → Type 0
+EachGoodDated Holds =
+    (layout : DatedLayout) (status : Status) (weekday : ℕ) (date : Date) (time : Time) → Good (Dated layout status weekday date time)
+    → Holds (Dated layout status weekday date time) (Dated L6021 status weekday date time)
+
+-- and so it is: what an unnamed write makes of such a record comes back as its 6021 form, and no byte is stray
+abbrev pub TheLineReaderSeesIt : (Reader → List ℕ → Calls) → Type 0
+TheLineReaderSeesIt call =
+    EachGoodDated (λ rec form. (room : ℕ) (bytes : List ℕ) → writes Unnamed rec room ≡ done bytes → GivesBack call bytes (Event (answer.Good form) 0 18 ∷ []) 0)
+
+-- "An unnamed setting now means 6021 with control characters", without second advance: into every buffer it writes, or refuses, as that
+-- setting does by name of the 6021 form
+abbrev pub UnnamedMeans6021WithControlCharacters : Type 0
+UnnamedMeans6021WithControlCharacters = EachGoodDated (λ rec form. (room : ℕ) → writes Unnamed rec room ≡ writes (plain true) form room)
+
+-- "a buffer of 16 bytes is then too short, with 13", as is one of 17: it has 18 bytes
+abbrev pub ItHas18Bytes : Type 0
+ItHas18Bytes =
+    EachGoodDated
+    (λ rec form.
+    (length (telegramOf true form) ≡ 18)
+    × ((room : ℕ) → 18 ≤ room → writes Unnamed rec room ≡ done (telegramOf true form))
+    × ((room : ℕ) → room < 18 → writes Unnamed rec room ≡ refused 13))
+
+-- a time-only record is still 14, whatever the buffer's length; 5 to 8 come first
+abbrev pub TimeAloneIsStill14 : Type 0
+TimeAloneIsStill14 =
+    (layout : TimeLayout) (time : Time) (room : ℕ) → Good (TimeOnly layout time) → writes Unnamed (TimeOnly layout time) room ≡ refused 14
+
+abbrev pub TheRecordsOwnComesFirst : Type 0
+TheRecordsOwnComesFirst = (rec : Record) (room : ℕ) → (Good rec → ⊥) → writes Unnamed rec room ≡ refused (refusalOf rec)
+
+-- Several telegrams follow: good records with a date, and their 6021 forms
+abbrev pub AreThe6021FormsOf : List Record → List Record → Type 0
+AreThe6021FormsOf [] [] = Unit {0}
+AreThe6021FormsOf (form ∷ forms) (rec ∷ recs) = Good rec × (as6021 rec ≡ done form) × AreThe6021FormsOf forms recs
+AreThe6021FormsOf [] (rec ∷ recs) = ⊥
+AreThe6021FormsOf (form ∷ forms) [] = ⊥
+
+-- one event every 18 bytes
+abbrev pub everyEighteen : ℕ → List Record → List Heard
+everyEighteen from [] = []
+everyEighteen from (form ∷ forms) = Event (answer.Good form) (from % 2 ^ 32) 18 ∷ everyEighteen (from + 18) forms
+
+-- written one behind another where there is room, all of them stand, and the line reader sees them all
+abbrev pub SeveralFollow : (Reader → List ℕ → Calls) → Type 0
+SeveralFollow call =
+    (recs forms : List Record) (buffer : List ℕ) → AreThe6021FormsOf forms recs → 18 * length recs ≤ length buffer
+    → (severalAll Unnamed recs noneYet buffer .0 ≡ record { count = length recs % 2 ^ 64; used = 18 * length recs; ending = Whole })
+    × GivesBack call (take (18 * length recs) (severalAll Unnamed recs noneYet buffer .1)) (everyEighteen 0 forms) 0
+
+-- "Two of our meter programs rely on bare output: they hand over 6021 records, must now name it and produce the same bytes as before": of
+-- every 6021 record and with every buffer the named bare write answers and leaves what the unnamed one did; and so several do
+abbrev pub Is6021 : Record → Type 0
+Is6021 rec = ownLayout rec ≡ layouts.Dated L6021
+
+abbrev pub Are6021 : List Record → Type 0
+Are6021 [] = Unit {0}
+Are6021 (rec ∷ recs) = Is6021 rec × Are6021 recs
+
+abbrev pub NamedBareDoesWhatUnnamedDid : Type 0
+NamedBareDoesWhatUnnamedDid =
+    (rec : Record) (buffer : List ℕ) → Is6021 rec → laid (telegramFor (plain false) rec) buffer ≡ laid (unnamedBefore rec) buffer
+
+abbrev pub SeveralNamedBareDoSo : Type 0
+SeveralNamedBareDoSo =
+    (several : Several) (recs : List Record) (buffer : List ℕ) → Are6021 recs
+    → severalAfter (plain false) several recs buffer ≡ severalBefore several recs buffer
+
+-- two short cases, P1 and P11 of the boundary table, in the 16 bytes that were enough
+abbrev pub meterCases : List (Record × List ℕ)
+meterCases =
+    (Dated L6021 highDaylight 3 (date 1996 4 17) (time 12 34 56), ascii "E3123456170496" ++ lfCr)
+    ∷ (Dated L6021 highUtc 3 (date 1996 1 3) (time 12 34 56), ascii "CB123456030196" ++ lfCr)
+    ∷ []
+
+abbrev pub MeterCaseHolds : Record × List ℕ → Type 0
+MeterCaseHolds row = (writes (plain false) (row .0) 16 ≡ done (row .1)) × (within 16 (unnamedBefore (row .0)) ≡ done (row .1))
+
+abbrev pub UnnamedWritesAreAsAskedFor : Type 0
+UnnamedWritesAreAsAskedFor =
+    TheBytesOfBeforeBetweenStxAndEtx
+    -- by calls of feed, and by those that use a piece up
+    × BeforeAllBytesWereStray (feeding feeds)
+    × BeforeAllBytesWereStray usingUp
+    × TheLineReaderSeesIt (feeding feeds)
+    × TheLineReaderSeesIt usingUp
+    × UnnamedMeans6021WithControlCharacters
+    × ItHas18Bytes
+    × TimeAloneIsStill14
+    × TheRecordsOwnComesFirst
+    × SeveralFollow (feeding feeds)
+    × SeveralFollow usingUp
+    × NamedBareDoesWhatUnnamedDid
+    × SeveralNamedBareDoSo
+    × EachHolds MeterCaseHolds meterCases

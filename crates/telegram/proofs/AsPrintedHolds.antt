@@ -1,0 +1,18 @@
+-- What a write makes is as printed, computed from the definitions. Assumes nothing.
+use mathlib.Core.Path.{refl}
+use Rattle.refusals.specs.Refusals.{unless}
+use Rattle.laying.specs.Laying.{within}
+use Rattle.places.specs.Places.{codeCharacter, render}
+use Rattle.calendar.specs.Calendar.{isLeap, monthLength, monthInRange, dateInRange, dayExists, monthStart, dayOf}
+use Rattle.calendar.specs.TimeOfDay.{timeInRange, timeAfter, isLastSecond}
+use Rattle.record.specs.Sixty.{sixtyBehind59, takesSixty, upTo59}
+use Rattle.record.specs.Rule.{plainUtc, tableCanSay, statusAllowed, weekdayAllowed, weekdayAgrees, timeAllowed, timeAloneAllowed, timeAloneRefusal, datedRefusal}
+use Rattle.record.specs.Next.{nextSecondOf}
+use Rattle.layouts.specs.Layouts.{placesOf}
+use Rattle.layouts.specs.Coding.{statusOut6021}
+use Rattle.telegram.specs.Writing.{bodyBytes, telegramFor}
+use Rattle.telegram.specs.AsPrinted.{WritesAreAsPrinted}
+
+pub as-printed : WritesAreAsPrinted
+unfolding unless within codeCharacter render isLeap monthLength monthInRange dateInRange dayExists monthStart dayOf timeInRange timeAfter isLastSecond sixtyBehind59 takesSixty upTo59 timeAllowed timeAloneAllowed timeAloneRefusal plainUtc tableCanSay statusAllowed weekdayAllowed weekdayAgrees datedRefusal nextSecondOf placesOf statusOut6021 bodyBytes telegramFor
+as-printed = record { settings = refl; records = refl; rooms = refl; noRoom = refl; shortRoom = refl; room = refl }
