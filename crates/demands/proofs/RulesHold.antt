@@ -94,7 +94,7 @@ reading-rules control bytes =
     go next (refused n) wrong e on = e
 
 -- writing
-next-layout : (rec : Record) → ownLayout (recordAfter rec) ≡ ownLayout rec
+pub next-layout : (rec : Record) → ownLayout (recordAfter rec) ≡ ownLayout rec
 next-layout (Dated layout status weekday date time) = go (isLastSecond (upTo59 time))
   where
     go : (last : Bool)

@@ -1,19 +1,18 @@
 -- Document 02, e, holds. Assumes nothing.
 use mathlib.Core.Path.{_≡_, refl, ap, ap₂, sym, _∙_}
-use mathlib.Core.Bool.{Bool, true, false, not, _&&_}
+use mathlib.Core.Bool.{Bool, true, false, cond, not}
 use mathlib.Core.List.{List, [], _∷_, _++_, map, append-nil}
-use Prim.Native.Nat.{ℕ, zero, suc, _+_, _-_, _*_, _%_, _^_, _≤_, _<_}
+use Prim.Native.Nat.{ℕ, zero, suc, _+_, _-_, _*_, _%_, _^_, _≤_}
 use native.Mathlib.Nat.{add-zero, zero-add}
 use native.Mathlib.Omega.{arith}
 use lib.Dec.{eqb}
 use lib.ListN.{length, take, drop, length-append}
 use lib.Seq.{take-at}
 use Rattle.refusals.specs.Refusals.{Outcome, done, refused, unless, after}
-use Rattle.refusals.proofs.Laws.{both, does, refuses}
-use Rattle.laying.specs.declared.Ending.{Ending}
+use Rattle.refusals.proofs.Laws.{both, does, refuses, was-done}
 use Rattle.laying.specs.declared.Ending.the-variants.{Whole}
 use Rattle.laying.specs.Laying.{within, laid}
-use Rattle.laying.specs.OneBehindAnother.{Standing, joined, partThen, oneBehindAnother}
+use Rattle.laying.specs.OneBehindAnother.{joined, partThen, oneBehindAnother}
 use Rattle.laying.proofs.LayingLaws.{within-short, within-fits, within-refused, within-done}
 use Rattle.laying.proofs.OneBehindAnotherLaws.{no-part, first-part}
 use Rattle.ascii.specs.Control.{stx, etx}
@@ -21,18 +20,20 @@ use Rattle.places.specs.Places.{codeCharacter, render}
 use Rattle.calendar.specs.Calendar.{isLeap, monthLength, monthInRange, dateInRange, dayExists, monthStart, dayOf}
 use Rattle.calendar.specs.TimeOfDay.{timeInRange}
 use Rattle.record.specs.declared.DatedLayout.{DatedLayout}
-use Rattle.record.specs.declared.DatedLayout.the-variants.{L6021}
+use Rattle.record.specs.declared.DatedLayout.the-variants.{L6021, L2000, L5500, L5050}
 use Rattle.record.specs.declared.Record.{Record}
 use Rattle.record.specs.declared.Record.the-variants.{Dated, TimeOnly}
 use Rattle.record.specs.declared.RecordAnswer.the-variants as answer
 use Rattle.record.specs.Rule.{statusAllowed, weekdayAllowed, weekdayAgrees, timeAllowed, datedRefusal, refusalOf}
+use Rattle.record.specs.Next.{recordAfter, nextSecondOf}
 use Rattle.layouts.specs.declared.Layout.the-variants as layouts
 use Rattle.layouts.specs.Layouts.{placesOf, ownLayout}
 use Rattle.layouts.specs.Coding.{statusOut6021}
-use Rattle.telegram.specs.declared.write.Choice.the-variants.{Unnamed}
-use Rattle.telegram.specs.declared.several.Several.{Several}
-use Rattle.telegram.specs.Writing.{bodyBytes, telegramOf, as6021, judgedOf, recordToWrite, telegramFor, nextTelegram, telegramsIn, withMore, unlessEnded, severalAfter}
-use Rattle.telegram.proofs.WriteLaws.{telegram-refused, telegram-made}
+use Rattle.telegram.specs.declared.write.Setting.{Setting}
+use Rattle.telegram.specs.declared.write.Choice.{Choice}
+use Rattle.telegram.specs.declared.write.Choice.the-variants.{Named, Unnamed}
+use Rattle.telegram.specs.Writing.{bodyBytes, telegramOf, as6021, judgedOf, recordToWrite, controlOf, telegramFor, nextTelegram, telegramsIn, withMore, unlessEnded, severalAfter}
+use Rattle.telegram.proofs.WriteLaws.{telegram-refused, telegram-made, was-made}
 use Rattle.telegram.proofs.ReadsBack.{written-is-good}
 use Rattle.telegram.proofs.SeveralLaws.{stood-as, several-stand}
 use Rattle.line.specs.declared.Reader.{Reader}
@@ -44,8 +45,9 @@ use Rattle.line.proofs.SentLaws.{plain-body}
 use Rattle.demands.specs.Lengths.{lengthOf}
 use Rattle.demands.specs.Demand2.{Good, plain}
 use Rattle.demands.specs.Demand3.{GoodTelegrams, NoStxAround, GivesBack, HandsBack}
-use Rattle.demands.specs.UnnamedWrites.{unnamedBefore, nextBefore, severalBefore, TheBytesOfBeforeBetweenStxAndEtx, BeforeAllBytesWereStray, TheLineReaderSeesIt, UnnamedMeans6021WithControlCharacters, ItHas18Bytes, TimeAloneIsStill14, TheRecordsOwnComesFirst, AreThe6021FormsOf, everyEighteen, SeveralFollow, Is6021, Are6021, NamedBareDoesWhatUnnamedDid, SeveralNamedBareDoSo, UnnamedWritesAreAsAskedFor}
+use Rattle.demands.specs.UnnamedWrites.{unnamedBefore, nextBefore, TheBytesOfBeforeBetweenStxAndEtx, BeforeAllBytesWereStray, TheLineReaderSeesIt, UnnamedMeans6021WithControlCharacters, ItHas18Bytes, TimeAloneIsStill14, TheRecordsOwnComesFirst, AreThe6021FormsOf, everyEighteen, SeveralFollow, Is6021, Are6021, NamedBareDoesWhatUnnamedDid, SeveralNamedBareDoSo, NoChoiceWritesAnothersBare6021, UnnamedWritesAreAsAskedFor}
 use Rattle.demands.proofs.TableLengths.{telegram-length}
+use Rattle.demands.proofs.RulesHold.{next-layout}
 use Rattle.demands.proofs.Demand2Holds.{made-itself}
 use Rattle.demands.proofs.Demand3Holds.{demand-3-hands-back-that-list, demand-3-using-up-hands-back}
 
@@ -253,7 +255,43 @@ several-do-so several recs buffer are =
     ap (λ standing. unlessEnded (several .ending) (withMore several buffer standing) (several, buffer))
     (stand-as-before (length recs) (length buffer - several .used) recs are)
 
+-- what a named setting writes is of the record's own layout, and has its length
+own-kept : (setting : Setting) (rec r : Record) → recordToWrite (Named setting) rec ≡ done r → ownLayout r ≡ ownLayout rec
+unfolding nextSecondOf
+own-kept setting rec r = go (setting .advance)
+  where
+    go : (advance : Bool) → cond advance (nextSecondOf rec) (judgedOf rec) ≡ done r → ownLayout r ≡ ownLayout rec
+    go true e = ap ownLayout (sym (was-done _ (recordAfter rec) r e .1)) ∙ next-layout rec
+    go false e = ap ownLayout (sym (was-done (refusalOf rec) rec r e .1))
+
+not-16 : (control : Bool) (layout : DatedLayout) → (layouts.Dated layout ≡ layouts.Dated L6021 → ⊥) → lengthOf control (layouts.Dated layout) ≡ 16 → ⊥
+not-16 control L6021 other e = other refl
+not-16 true L2000 other e = absurd (omega arith)
+not-16 false L2000 other e = absurd (omega arith)
+not-16 true L5500 other e = absurd (omega arith)
+not-16 false L5500 other e = absurd (omega arith)
+not-16 true L5050 other e = absurd (omega arith)
+not-16 false L5050 other e = absurd (omega arith)
+
+no-choice : NoChoiceWritesAnothersBare6021
+no-choice layout status weekday date time good choice other same =
+    let rec = Dated layout status weekday date time in
+    let form = Dated L6021 status weekday date time in
+    let before : unnamedBefore rec ≡ done (telegramOf false form) = ap (λ o. after o (λ r. done (telegramOf false r))) (asked rec form good refl) in
+    let written = was-made choice rec (telegramOf false form) (same ∙ before) in
+    let size : length (telegramOf (controlOf choice) (written .0)) ≡ 16 = ap length (written .2) ∙ telegram-length false form in
+    go choice (written .0) (written .1) (sym (telegram-length (controlOf choice) (written .0)) ∙ size)
+  where
+    go : (choice : Choice) (r : Record) → recordToWrite choice (Dated layout status weekday date time) ≡ done r → lengthOf (controlOf choice) (ownLayout r) ≡ 16 → ⊥
+    go (Named setting) r e size =
+        not-16 (setting .control) layout other (ap (lengthOf (setting .control)) (sym (own-kept setting (Dated layout status weekday date time) r e)) ∙ size)
+    go Unnamed r e size =
+        let told : done (Dated L6021 status weekday date time) ≡ done r = sym (asked (Dated layout status weekday date time) (Dated L6021 status weekday date time) good refl) ∙ e in
+        let is : Dated L6021 status weekday date time ≡ r = cc in
+        let eighteen : _≡_ {A = ℕ} 18 16 = ap (λ rec. lengthOf true (ownLayout rec)) is ∙ size in
+        absurd (omega arith)
+
 pub unnamed-writes : UnnamedWritesAreAsAskedFor
 unfolding unless within codeCharacter render isLeap monthLength monthInRange dateInRange dayExists monthStart dayOf timeInRange timeAllowed statusAllowed weekdayAllowed weekdayAgrees datedRefusal placesOf statusOut6021 bodyBytes telegramFor
 unnamed-writes =
-    (between, was-stray _ demand-3-hands-back-that-list, was-stray _ demand-3-using-up-hands-back, sees-it _ demand-3-hands-back-that-list, sees-it _ demand-3-using-up-hands-back, means, has-18-bytes, time-alone, own-first, several-follow _ demand-3-hands-back-that-list, several-follow _ demand-3-using-up-hands-back, does-what-unnamed-did, several-do-so, ((refl, refl), ((refl, refl), tt)))
+    (between, was-stray _ demand-3-hands-back-that-list, was-stray _ demand-3-using-up-hands-back, sees-it _ demand-3-hands-back-that-list, sees-it _ demand-3-using-up-hands-back, means, has-18-bytes, time-alone, own-first, several-follow _ demand-3-hands-back-that-list, several-follow _ demand-3-using-up-hands-back, does-what-unnamed-did, several-do-so, no-choice, ((refl, refl), ((refl, refl), tt)))

@@ -1,7 +1,7 @@
 -- Document 02, e, "Writes carry STX and ETX unless told otherwise", sentence by sentence. When a write is refused stands in the rules of
 -- demand 1, that an unnamed one reads back with control characters in demand 2, and literal bytes in telegram/specs/AsPrinted.antt.
 use mathlib.Core.Bool.{true, false}
-use mathlib.Core.List.{List, [], _∷_, _++_, map}
+use mathlib.Core.List.{List, [], _∷_, _++_}
 use mathlib.Core.Path.{_≡_}
 use Prim.Native.Nat.{ℕ, _+_, _-_, _*_, _%_, _^_, _≤_, _<_}
 use lib.ListN.{length, take}
@@ -25,6 +25,7 @@ use Rattle.record.specs.declared.RecordAnswer.the-variants as answer
 use Rattle.record.specs.Rule.{refusalOf}
 use Rattle.layouts.specs.declared.Layout.the-variants as layouts
 use Rattle.layouts.specs.Layouts.{ownLayout}
+use Rattle.telegram.specs.declared.write.Choice.{Choice}
 use Rattle.telegram.specs.declared.write.Choice.the-variants.{Unnamed}
 use Rattle.telegram.specs.declared.several.Several.{Several}
 use Rattle.telegram.specs.Writing.{telegramOf, as6021, judgedOf, telegramFor, noneYet, withMore, unlessEnded, severalAfter, severalAll}
@@ -132,6 +133,10 @@ SeveralNamedBareDoSo =
     (several : Several) (recs : List Record) (buffer : List ℕ) → Are6021 recs
     → severalAfter (plain false) several recs buffer ≡ severalBefore several recs buffer
 
+-- But of another layout's record no call writes those bytes, whatever it names
+abbrev pub NoChoiceWritesAnothersBare6021 : Type 0
+NoChoiceWritesAnothersBare6021 = EachGoodDated (λ rec form. (choice : Choice) → (Is6021 rec → ⊥) → telegramFor choice rec ≡ unnamedBefore rec → ⊥)
+
 -- two short cases, P1 and P11 of the boundary table, in the 16 bytes that were enough
 abbrev pub meterCases : List (Record × List ℕ)
 meterCases =
@@ -158,4 +163,5 @@ UnnamedWritesAreAsAskedFor =
     × SeveralFollow usingUp
     × NamedBareDoesWhatUnnamedDid
     × SeveralNamedBareDoSo
+    × NoChoiceWritesAnothersBare6021
     × EachHolds MeterCaseHolds meterCases
