@@ -836,7 +836,8 @@ SEVERAL_ROOMS = (0, 16, 17, 18, 35, 36, 37, 53, 54, 55, MANY)
 
 def several_unnamed(dice):
     """Good records one behind another, up to one more than any buffer takes; then with one among them that is refused, behind as many
-    as the buffer takes, which tells its own number although there is no room; and behind one less and one more."""
+    as the buffer takes, which tells its own number although there is no room; and behind one less, and one more, where 13 comes
+    before it."""
     def good_ones(number):
         return [unnamed.good_by_dice(dice) for _ in range(number)]
 
@@ -845,7 +846,7 @@ def several_unnamed(dice):
     refused = [*unnamed.without_date(), *unnamed.bad_of_each_number(), *second_60.bad_ones()]
     for room, record in itertools.product(SEVERAL_ROOMS, refused):
         full = room // unnamed.SIZE
-        for before in sorted({max(full - 1, 0), full, min(full + 1, 3)}):
+        for before in sorted({max(full - 1, 0), full, full + 1}):
             yield several_case([*good_ones(before), record, *good_ones(1)], None, room)
 
 
@@ -882,7 +883,7 @@ def on_a_line(captured, *cuts):
 
 def unnamed_on_lines(dice):
     """What unnamed writes made, on a line: a telegram alone, whole and cut at each place; several one behind another, whole and cut
-    anywhere, also more than are handed on at a time. Bare telegrams beside them are stray bytes all through."""
+    anywhere, also more than are handed on at a time. Bare telegrams, on lines of their own, are stray bytes all through."""
     dated_ones = [record for record in [*one_of_each(), *second_60.one_of_each()] if not records.is_time_only(record)]
     for record in [*unnamed.METER_RECORDS] + dated_ones:
         captured = unnamed.written([record])

@@ -165,8 +165,7 @@ def telegram_as_set(record, setting):
 def telegram_without_setting(record):
     """What is written where no setting is named: 6021 whatever the record's layout, with
     control characters, so that a line reader takes it, no advance; 5 to 8, then 14 for a
-    time-only record. A bare 6021 of a record of another layout is to be had in no one call:
-    a named setting writes the record's own layout."""
+    time-only record."""
     check_record(record)
     if is_time_only(record):
         raise Refused(NO_DATE)

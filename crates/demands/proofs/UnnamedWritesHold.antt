@@ -45,7 +45,7 @@ use Rattle.line.proofs.SentLaws.{plain-body}
 use Rattle.demands.specs.Lengths.{lengthOf}
 use Rattle.demands.specs.Demand2.{Good, plain}
 use Rattle.demands.specs.Demand3.{GoodTelegrams, NoStxAround, GivesBack, HandsBack}
-use Rattle.demands.specs.UnnamedWrites.{unnamedBefore, nextBefore, TheBytesOfBeforeBetweenStxAndEtx, BeforeAllBytesWereStray, TheLineReaderSeesIt, UnnamedMeans6021WithControlCharacters, ItHas18Bytes, TimeAloneIsStill14, TheRecordsOwnComesFirst, AreThe6021FormsOf, everyEighteen, SeveralFollow, Is6021, Are6021, NamedBareDoesWhatUnnamedDid, SeveralNamedBareDoSo, NoChoiceWritesAnothersBare6021, UnnamedWritesAreAsAskedFor}
+use Rattle.demands.specs.UnnamedWrites.{unnamedBefore, nextBefore, TheBytesOfBeforeBetweenStxAndEtx, BeforeAllBytesWereStray, TheLineReaderSeesIt, UnnamedMeans6021WithControlCharacters, ItHas18Bytes, TimeAloneIsStill14, TheRecordsOwnComesFirst, AreThe6021FormsOf, everyEighteen, SeveralFollow, Is6021, Are6021, NamedBareDoesWhatUnnamedDid, SeveralNamedBareDoSo, NoChoiceMakesAnothersBare6021, UnnamedWritesAreAsAskedFor}
 use Rattle.demands.proofs.TableLengths.{telegram-length}
 use Rattle.demands.proofs.RulesHold.{next-layout}
 use Rattle.demands.proofs.Demand2Holds.{made-itself}
@@ -273,12 +273,11 @@ not-16 false L5500 other e = absurd (omega arith)
 not-16 true L5050 other e = absurd (omega arith)
 not-16 false L5050 other e = absurd (omega arith)
 
-no-choice : NoChoiceWritesAnothersBare6021
+no-choice : NoChoiceMakesAnothersBare6021
 no-choice layout status weekday date time good choice other same =
     let rec = Dated layout status weekday date time in
     let form = Dated L6021 status weekday date time in
-    let before : unnamedBefore rec ≡ done (telegramOf false form) = ap (λ o. after o (λ r. done (telegramOf false r))) (asked rec form good refl) in
-    let written = was-made choice rec (telegramOf false form) (same ∙ before) in
+    let written = was-made choice rec (telegramOf false form) same in
     let size : length (telegramOf (controlOf choice) (written .0)) ≡ 16 = ap length (written .2) ∙ telegram-length false form in
     go choice (written .0) (written .1) (sym (telegram-length (controlOf choice) (written .0)) ∙ size)
   where

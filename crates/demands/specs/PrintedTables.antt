@@ -50,5 +50,5 @@ AllIsAsPrinted =
     × TheLogIsAsPrinted
     × TheLogsListingsAreAsPrinted
     × TheListingsOfALogAreAsPrinted
-    -- "Refusal numbers", and document 02, e: what each setting writes, and none; buffers of each length around 18
+    -- "Refusal numbers", and document 02, e: what each setting writes, and what is written without one; buffers of each length around 18
     × WritesAreAsPrinted

@@ -70,8 +70,8 @@ readingRules control bytes =
 abbrev pub nextSecondRules : Record → List Rule
 nextSecondRules rec = recordRules rec ++ 12 givenWhen isLastOfCalendar rec ∷ []
 
--- writing: 13 "the lent buffer is shorter than what is to be written"; without a named setting a 6021 is written with control
--- characters, whose 18 bytes need a date: 14 "a date is needed and the layout carries none"
+-- writing: 13 "the lent buffer is shorter than what is to be written". Without a named setting that is a 6021 with control characters,
+-- 18 bytes, or nothing: 14 "a date is needed and the layout carries none"
 abbrev pub writingRules : Choice → Record → ℕ → List Rule
 writingRules (Named setting) rec room =
     recordRules rec

@@ -1,5 +1,6 @@
--- Document 02, e, "Writes carry STX and ETX unless told otherwise", sentence by sentence. When a write is refused stands in the rules of
--- demand 1, that an unnamed one reads back with control characters in demand 2, and literal bytes in telegram/specs/AsPrinted.antt.
+-- Document 02, e, "Writes carry STX and ETX unless told otherwise", sentence by sentence. All refusals of a write together stand in the
+-- rules of demand 1, that an unnamed one reads back with control characters in demand 2, and its printed rows in
+-- telegram/specs/AsPrinted.antt.
 use mathlib.Core.Bool.{true, false}
 use mathlib.Core.List.{List, [], _∷_, _++_}
 use mathlib.Core.Path.{_≡_}
@@ -59,7 +60,7 @@ abbrev pub TheBytesOfBeforeBetweenStxAndEtx : Type 0
 TheBytesOfBeforeBetweenStxAndEtx =
     (rec : Record) (room : ℕ) → writes Unnamed rec room ≡ within room (after (unnamedBefore rec) (λ body. done (stx ∷ body ++ etx ∷ [])))
 
--- "New staff forget to ask, and the line reader sees only stray bytes": so it was
+-- "New staff forget to ask, and the line reader sees only stray bytes": so it was with the bytes of before
 abbrev pub BeforeAllBytesWereStray : (Reader → List ℕ → Calls) → Type 0
 BeforeAllBytesWereStray call = (rec : Record) (bytes : List ℕ) → unnamedBefore rec ≡ done bytes → GivesBack call bytes [] 16
 
@@ -69,7 +70,8 @@ EachGoodDated Holds =
     (layout : DatedLayout) (status : Status) (weekday : ℕ) (date : Date) (time : Time) → Good (Dated layout status weekday date time)
     → Holds (Dated layout status weekday date time) (Dated L6021 status weekday date time)
 
--- and so it is: what an unnamed write makes of such a record comes back as its 6021 form, and no byte is stray
+-- the reason for the request: what an unnamed write makes of such a record, the line reader hands back as its 6021 form, and no byte is
+-- stray
 abbrev pub TheLineReaderSeesIt : (Reader → List ℕ → Calls) → Type 0
 TheLineReaderSeesIt call =
     EachGoodDated (λ rec form. (room : ℕ) (bytes : List ℕ) → writes Unnamed rec room ≡ done bytes → GivesBack call bytes (Event (answer.Good form) 0 18 ∷ []) 0)
@@ -133,9 +135,10 @@ SeveralNamedBareDoSo =
     (several : Several) (recs : List Record) (buffer : List ℕ) → Are6021 recs
     → severalAfter (plain false) several recs buffer ≡ severalBefore several recs buffer
 
--- But of another layout's record no call writes those bytes, whatever it names
-abbrev pub NoChoiceWritesAnothersBare6021 : Type 0
-NoChoiceWritesAnothersBare6021 = EachGoodDated (λ rec form. (choice : Choice) → (Is6021 rec → ⊥) → telegramFor choice rec ≡ unnamedBefore rec → ⊥)
+-- but of a record of another layout no choice makes the bare 6021
+abbrev pub NoChoiceMakesAnothersBare6021 : Type 0
+NoChoiceMakesAnothersBare6021 =
+    EachGoodDated (λ rec form. (choice : Choice) → (Is6021 rec → ⊥) → telegramFor choice rec ≡ done (telegramOf false form) → ⊥)
 
 -- two short cases, P1 and P11 of the boundary table, in the 16 bytes that were enough
 abbrev pub meterCases : List (Record × List ℕ)
@@ -163,5 +166,5 @@ UnnamedWritesAreAsAskedFor =
     × SeveralFollow usingUp
     × NamedBareDoesWhatUnnamedDid
     × SeveralNamedBareDoSo
-    × NoChoiceWritesAnothersBare6021
+    × NoChoiceMakesAnothersBare6021
     × EachHolds MeterCaseHolds meterCases

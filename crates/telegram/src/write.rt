@@ -79,7 +79,6 @@ fn record_to_write(choice: Choice, rec: Record) -> RecordAnswer
     }
 }
 
-// STX and ETX are written unless a setting says otherwise.
 fn control_of(choice: Choice) -> bool
     ensures { λ r. ⌜ r ≡ controlOf choice ⌝ }
 {
