@@ -1,14 +1,15 @@
 -- Document 02, e, holds. Assumes nothing.
-use mathlib.Core.Path.{_≡_, refl, ap, ap₂, sym, _∙_}
+use mathlib.Core.Path.{_≡_, refl, ap, sym, _∙_}
 use mathlib.Core.Bool.{Bool, true, false, cond, not}
 use mathlib.Core.List.{List, [], _∷_, _++_, map, append-nil}
 use Prim.Native.Nat.{ℕ, zero, suc, _+_, _-_, _*_, _%_, _^_, _≤_}
 use native.Mathlib.Nat.{add-zero, zero-add}
 use native.Mathlib.Omega.{arith}
 use lib.Dec.{eqb}
-use lib.ListN.{length, take, drop, length-append}
+use lib.ListN.{length, take, drop, length-append, length-map}
 use lib.Seq.{take-at}
 use Rattle.refusals.specs.Refusals.{Outcome, done, refused, unless, after}
+use Rattle.refusals.specs.Tables.{EachHolds}
 use Rattle.refusals.proofs.Laws.{both, does, refuses, was-done}
 use Rattle.laying.specs.declared.Ending.the-variants.{Whole}
 use Rattle.laying.specs.Laying.{within, laid}
@@ -24,7 +25,7 @@ use Rattle.record.specs.declared.DatedLayout.the-variants.{L6021, L2000, L5500,
 use Rattle.record.specs.declared.Record.{Record}
 use Rattle.record.specs.declared.Record.the-variants.{Dated, TimeOnly}
 use Rattle.record.specs.declared.RecordAnswer.the-variants as answer
-use Rattle.record.specs.Rule.{statusAllowed, weekdayAllowed, weekdayAgrees, timeAllowed, datedRefusal, refusalOf}
+use Rattle.record.specs.Rule.{statusAllowed, weekdayAllowed, weekdayAgrees, timeAllowed, datedRefusal, refusalOf, carriesDate}
 use Rattle.record.specs.Next.{recordAfter, nextSecondOf}
 use Rattle.layouts.specs.declared.Layout.the-variants as layouts
 use Rattle.layouts.specs.Layouts.{placesOf, ownLayout}
@@ -45,7 +46,7 @@ use Rattle.line.proofs.SentLaws.{plain-body}
 use Rattle.demands.specs.Lengths.{lengthOf}
 use Rattle.demands.specs.Demand2.{Good, plain}
 use Rattle.demands.specs.Demand3.{GoodTelegrams, NoStxAround, GivesBack, HandsBack}
-use Rattle.demands.specs.UnnamedWrites.{unnamedBefore, nextBefore, TheBytesOfBeforeBetweenStxAndEtx, BeforeAllBytesWereStray, TheLineReaderSeesIt, UnnamedMeans6021WithControlCharacters, ItHas18Bytes, TimeAloneIsStill14, TheRecordsOwnComesFirst, AreThe6021FormsOf, everyEighteen, SeveralFollow, Is6021, Are6021, NamedBareDoesWhatUnnamedDid, SeveralNamedBareDoSo, NoChoiceMakesAnothersBare6021, UnnamedWritesAreAsAskedFor}
+use Rattle.demands.specs.UnnamedWrites.{unnamedBefore, nextBefore, TheBytesOfBeforeBetweenStxAndEtx, BeforeAllBytesWereStray, TheLineReaderSeesIt, UnnamedMeans6021WithControlCharacters, ItHas18Bytes, TimeAloneIsStill14, TheRecordsOwnComesFirst, GoodDated, form6021, everyEighteen, SeveralFollow, Is6021, NamedBareDoesWhatUnnamedDid, SeveralNamedBareDoSo, NoChoiceMakesAnothersBare6021, UnnamedWritesAreAsAskedFor}
 use Rattle.demands.proofs.TableLengths.{telegram-length}
 use Rattle.demands.proofs.RulesHold.{next-layout}
 use Rattle.demands.proofs.Demand2Holds.{made-itself}
@@ -66,34 +67,34 @@ form-layout (Dated layout status weekday date time) form e =
     let is : Dated L6021 status weekday date time ≡ form = cc in ap ownLayout (sym is)
 form-layout (TimeOnly layout time) form e = let z : _≡_ {A = ℕ} 0 1 = cc in absurd (omega arith)
 
+has-form : (rec : Record) → carriesDate rec ≡ true → as6021 rec ≡ done (form6021 rec)
+has-form (Dated layout status weekday date time) dated = refl
+has-form (TimeOnly layout time) dated = let z : _≡_ {A = ℕ} 0 1 = cc in absurd (omega arith)
+
 -- of a good record with a date the telegram of its 6021 form is written, which is good too
-module _ (rec form : Record) (good : Good rec) (is : as6021 rec ≡ done form) where
-  asked : recordToWrite Unnamed rec ≡ done form
-  asked = ap (λ o. after o as6021) (does rec good) ∙ is
+module _ (rec : Record) (fine : GoodDated rec) where
+  asked : recordToWrite Unnamed rec ≡ done (form6021 rec)
+  asked = ap (λ o. after o as6021) (does rec (fine .0)) ∙ has-form rec (fine .1)
 
-  form-good : Good form
-  form-good = written-is-good Unnamed rec form asked
+  form-good : Good (form6021 rec)
+  form-good = written-is-good Unnamed rec (form6021 rec) asked
 
-  made : telegramFor Unnamed rec ≡ done (telegramOf true form)
-  made = telegram-made Unnamed rec true form asked refl
+  made : telegramFor Unnamed rec ≡ done (telegramOf true (form6021 rec))
+  made = telegram-made Unnamed rec true (form6021 rec) asked refl
 
-  eighteen : length (telegramOf true form) ≡ 18
-  eighteen = telegram-length true form ∙ ap (lengthOf true) (form-layout rec form is)
+  eighteen : length (telegramOf true (form6021 rec)) ≡ 18
+  eighteen = telegram-length true (form6021 rec) ∙ ap (lengthOf true) (form-layout rec (form6021 rec) (has-form rec (fine .1)))
 
 means : UnnamedMeans6021WithControlCharacters
-means layout status weekday date time good room =
-    let rec = Dated layout status weekday date time in
-    let form = Dated L6021 status weekday date time in
-    ap (within room) (made rec form good refl ∙ sym (telegram-made (plain true) form true form (does form (form-good rec form good refl)) refl))
+means rec room fine =
+    ap (within room) (made rec fine ∙ sym (telegram-made (plain true) (form6021 rec) true (form6021 rec) (does (form6021 rec) (form-good rec fine)) refl))
 
 has-18-bytes : ItHas18Bytes
-has-18-bytes layout status weekday date time good =
-    let rec = Dated layout status weekday date time in
-    let form = Dated L6021 status weekday date time in
-    let size = eighteen rec form good refl in (
+has-18-bytes rec room fine =
+    let size = eighteen rec fine in (
       size,
-      λ room fits. ap (within room) (made rec form good refl) ∙ within-fits room (telegramOf true form) (omega (arith, size)),
-      λ room short. ap (within room) (made rec form good refl) ∙ within-short room (telegramOf true form) (omega (arith, size)),
+      λ fits. ap (within room) (made rec fine) ∙ within-fits room (telegramOf true (form6021 rec)) (omega (arith, size)),
+      λ short. ap (within room) (made rec fine) ∙ within-short room (telegramOf true (form6021 rec)) (omega (arith, size)),
     )
 
 -- what is refused has no telegram, whatever the room
@@ -106,43 +107,36 @@ time-alone layout time room good = no-telegram (TimeOnly layout time) 14 room (a
 own-first : TheRecordsOwnComesFirst
 own-first rec room bad = no-telegram rec (refusalOf rec) room (ap (λ o. after o as6021) (sym (refuses rec refl bad)))
 
--- The line. 6021 forms one behind another, as demand 3 has them: nothing before each.
-alone : Record → Sent
-alone form = record { before = []; rec = form }
+-- The line. The telegrams of 6021 forms one behind another, as demand 3 has them: nothing before each.
+abbrev telegram : Record → List ℕ
+telegram rec = telegramOf true (form6021 rec)
 
-sent-bytes : (forms : List Record) → bytesSent (map alone forms) [] ≡ joined (map (telegramOf true) forms)
-unfolding alone
+abbrev alone : Record → Sent
+alone rec = record { before = []; rec = form6021 rec }
+
+sent-bytes : (recs : List Record) → bytesSent (map alone recs) [] ≡ joined (map telegram recs)
 sent-bytes [] = refl
-sent-bytes (form ∷ forms) = ap (_++_ (telegramOf true form)) (sent-bytes forms)
+sent-bytes (rec ∷ recs) = ap (_++_ (telegram rec)) (sent-bytes recs)
 
-no-stray : (forms : List Record) → straySent (map alone forms) [] ≡ 0
-unfolding alone
+no-stray : (recs : List Record) → straySent (map alone recs) [] ≡ 0
 no-stray [] = refl
-no-stray (form ∷ forms) = zero-add (straySent (map alone forms) []) ∙ no-stray forms
+no-stray (rec ∷ recs) = zero-add (straySent (map alone recs) []) ∙ no-stray recs
 
-nothing-around : (forms : List Record) → NoStxAround (map alone forms) []
-unfolding alone
+nothing-around : (recs : List Record) → NoStxAround (map alone recs) []
 nothing-around [] = refl
-nothing-around (form ∷ forms) = (refl, nothing-around forms)
+nothing-around (rec ∷ recs) = (refl, nothing-around recs)
 
-all-good : (forms recs : List Record) → AreThe6021FormsOf forms recs → GoodTelegrams (map alone forms)
-unfolding alone
-all-good [] [] are = tt
-all-good (form ∷ forms) (rec ∷ recs) are = (form-good rec form (are .0) (are .1), all-good forms recs (are .2))
-all-good [] (rec ∷ recs) are = tt
-all-good (form ∷ forms) [] are = absurd are
+all-good : (recs : List Record) → EachHolds GoodDated recs → GoodTelegrams (map alone recs)
+all-good [] fine = tt
+all-good (rec ∷ recs) fine = (form-good rec (fine .0), all-good recs (fine .1))
 
-events : (from : ℕ) (forms recs : List Record) → AreThe6021FormsOf forms recs → eventsSent from (map alone forms) ≡ everyEighteen from forms
-unfolding alone
-events from [] [] are = refl
-events from (form ∷ forms) (rec ∷ recs) are =
-    let size = eighteen rec form (are .0) (are .1) in
-    let next : from + 0 + length (telegramOf true form) ≡ from + 18 = omega (arith, size) in
-    ap₂ (λ start n. Event (answer.Good form) (start % 2 ^ 32) n ∷ eventsSent (from + 0 + length (telegramOf true form)) (map alone forms)) (add-zero from) size
-    ∙ ap (λ k. Event (answer.Good form) (from % 2 ^ 32) 18 ∷ eventsSent k (map alone forms)) next
-    ∙ ap (λ heard. Event (answer.Good form) (from % 2 ^ 32) 18 ∷ heard) (events (from + 18) forms recs (are .2))
-events from [] (rec ∷ recs) are = refl
-events from (form ∷ forms) [] are = absurd are
+events : (from : ℕ) (recs : List Record) → EachHolds GoodDated recs → eventsSent from (map alone recs) ≡ everyEighteen from recs
+events from [] fine = refl
+events from (rec ∷ recs) fine =
+    let size = eighteen rec (fine .0) in
+    let next : from + 0 + length (telegram rec) ≡ from + 18 = omega (arith, size) in
+    (λ i. Event (answer.Good (form6021 rec)) (add-zero from i % 2 ^ 32) (size i) ∷ eventsSent (next i) (map alone recs))
+    ∙ ap (_∷_ (Event (answer.Good (form6021 rec)) (from % 2 ^ 32) 18)) (events (from + 18) recs (fine .1))
 
 -- a body has no STX
 plain-no-stx : (bytes : List ℕ) → allPlain bytes ≡ true → noStx bytes ≡ true
@@ -153,19 +147,16 @@ plain-no-stx (byte ∷ bytes) plain =
 
 -- by any call that hands back what demand 3 says
 module _ (call : Reader → List ℕ → Calls) (demand : HandsBack call) where
-  forms-come-back : (forms recs : List Record) → AreThe6021FormsOf forms recs → GivesBack call (joined (map (telegramOf true) forms)) (everyEighteen 0 forms) 0
-  forms-come-back forms recs are served cut used =
-      let back = demand (map alone forms) [] (all-good forms recs are) (nothing-around forms) served (cut ∙ sym (sent-bytes forms)) used in
-      (back .0 ∙ events 0 forms recs are, back .1 ∙ ap (λ n. n % 4294967296) (no-stray forms), back .2)
+  forms-come-back : (recs : List Record) → EachHolds GoodDated recs → GivesBack call (joined (map telegram recs)) (everyEighteen 0 recs) 0
+  forms-come-back recs fine served cut used =
+      let back = demand (map alone recs) [] (all-good recs fine) (nothing-around recs) served (cut ∙ sym (sent-bytes recs)) used in
+      (back .0 ∙ events 0 recs fine, back .1 ∙ ap (λ n. n % 4294967296) (no-stray recs), back .2)
 
   sees-it : TheLineReaderSeesIt call
-  sees-it layout status weekday date time good room bytes e served cut used =
-      let rec = Dated layout status weekday date time in
-      let form = Dated L6021 status weekday date time in
-      let told : telegramFor Unnamed rec ≡ done bytes = within-done room (telegramFor Unnamed rec) bytes e .0 in
-      let same : done (telegramOf true form) ≡ done bytes = sym (made rec form good refl) ∙ told in
-      let is : telegramOf true form ≡ bytes = cc in
-      forms-come-back (form ∷ []) (rec ∷ []) (good, refl, tt) served (cut ∙ sym is ∙ sym (append-nil (telegramOf true form))) used
+  sees-it rec room bytes fine e served cut used =
+      let same : done (telegram rec) ≡ done bytes = sym (made rec fine) ∙ within-done room (telegramFor Unnamed rec) bytes e .0 in
+      let is : telegram rec ≡ bytes = cc in
+      forms-come-back (rec ∷ []) (fine, tt) served (cut ∙ sym is ∙ sym (append-nil (telegram rec))) used
 
   -- what was written before is the body of a 6021
   was-stray : BeforeAllBytesWereStray call
@@ -181,43 +172,32 @@ module _ (call : Reader → List ℕ → Calls) (demand : HandsBack call) where
       go (refused n) is e = let z : _≡_ {A = ℕ} 0 1 = cc in absurd (omega arith)
 
 -- Several, where there is room for all.
-all-stand : (forms recs : List Record) → AreThe6021FormsOf forms recs → (room : ℕ) → 18 * length recs ≤ room
-    → telegramsIn Unnamed room recs ≡ record { parts = map (telegramOf true) forms; left = []; ending = Whole }
-all-stand [] [] are room fits = no-part (nextTelegram Unnamed) 0 room [] refl
-all-stand (form ∷ forms) (rec ∷ recs) are room fits =
-    let size = eighteen rec form (are .0) (are .1) in
-    let rest = all-stand forms recs (are .2) (room - length (telegramOf true form)) (omega (arith, size)) in
+all-stand : (recs : List Record) → EachHolds GoodDated recs → (room : ℕ) → 18 * length recs ≤ room
+    → telegramsIn Unnamed room recs ≡ record { parts = map telegram recs; left = []; ending = Whole }
+all-stand [] fine room fits = no-part (nextTelegram Unnamed) 0 room [] refl
+all-stand (rec ∷ recs) fine room fits =
+    let size = eighteen rec (fine .0) in
+    let rest = all-stand recs (fine .1) (room - length (telegram rec)) (omega (arith, size)) in
     first-part (nextTelegram Unnamed) (length recs) room (rec ∷ recs) (telegramFor Unnamed rec) recs refl
     ∙ ap (λ o. partThen o (rec ∷ recs) (λ bytes. oneBehindAnother (nextTelegram Unnamed) (length recs) (room - length bytes) recs))
-    (ap (within room) (made rec form (are .0) (are .1)) ∙ within-fits room (telegramOf true form) (omega (arith, size)))
-    ∙ ap (λ later. record { parts = telegramOf true form ∷ later .parts; left = later .left; ending = later .ending }) rest
-all-stand [] (rec ∷ recs) are room fits = absurd are
-all-stand (form ∷ forms) [] are room fits = absurd are
+    (ap (within room) (made rec (fine .0)) ∙ within-fits room (telegram rec) (omega (arith, size)))
+    ∙ ap (λ later. record { parts = telegram rec ∷ later .parts; left = later .left; ending = later .ending }) rest
 
-as-many : (forms recs : List Record) → AreThe6021FormsOf forms recs → length (map (telegramOf true) forms) ≡ length recs
-as-many [] [] are = refl
-as-many (form ∷ forms) (rec ∷ recs) are = ap suc (as-many forms recs (are .2))
-as-many [] (rec ∷ recs) are = absurd are
-as-many (form ∷ forms) [] are = absurd are
-
-eighteen-each : (forms recs : List Record) → AreThe6021FormsOf forms recs → length (joined (map (telegramOf true) forms)) ≡ 18 * length recs
-eighteen-each [] [] are = refl
-eighteen-each (form ∷ forms) (rec ∷ recs) are =
-    let here = eighteen rec form (are .0) (are .1) in
-    let on = eighteen-each forms recs (are .2) in
-    omega (arith, length-append (telegramOf true form) (joined (map (telegramOf true) forms)), here, on)
-eighteen-each [] (rec ∷ recs) are = absurd are
-eighteen-each (form ∷ forms) [] are = absurd are
+eighteen-each : (recs : List Record) → EachHolds GoodDated recs → length (joined (map telegram recs)) ≡ 18 * length recs
+eighteen-each [] fine = refl
+eighteen-each (rec ∷ recs) fine =
+    let on = eighteen-each recs (fine .1) in
+    omega (arith, length-append (telegram rec) (joined (map telegram recs)), eighteen rec (fine .0), on)
 
 module _ (call : Reader → List ℕ → Calls) (demand : HandsBack call) where
   several-follow : SeveralFollow call
-  several-follow recs forms buffer are room =
-      let all = joined (map (telegramOf true) forms) in
-      let size = eighteen-each forms recs are in
-      let stand = several-stand Unnamed recs buffer ∙ ap (λ standing. stood-as standing buffer) (all-stand forms recs are (length buffer) room) in
+  several-follow recs buffer fine room =
+      let all = joined (map telegram recs) in
+      let size = eighteen-each recs fine in
+      let stand = several-stand Unnamed recs buffer ∙ ap (λ standing. stood-as standing buffer) (all-stand recs fine (length buffer) room) in
       let written = ap (λ s. take (18 * length recs) (s .1)) stand ∙ take-at all (drop (length all) buffer) (18 * length recs) size in (
-        ap (λ s. s .0) stand ∙ (λ i. record { count = as-many forms recs are i % 2 ^ 64; used = size i; ending = Whole }),
-        λ served cut used. forms-come-back call demand forms recs are served (cut ∙ written) used,
+        ap (λ s. s .0) stand ∙ (λ i. record { count = length-map recs telegram i % 2 ^ 64; used = size i; ending = Whole }),
+        λ served cut used. forms-come-back call demand recs fine served (cut ∙ written) used,
       )
 
 -- The meter programs: a 6021 record is its own 6021 form.
@@ -235,7 +215,7 @@ bare-as-before (TimeOnly layout time) is = let z : _≡_ {A = ℕ} 0 1 = cc in a
 does-what-unnamed-did : NamedBareDoesWhatUnnamedDid
 does-what-unnamed-did rec buffer is = ap (λ o. laid o buffer) (bare-as-before rec is)
 
-stand-as-before : (n room : ℕ) (recs : List Record) → Are6021 recs → oneBehindAnother (nextTelegram (plain false)) n room recs ≡ oneBehindAnother nextBefore n room recs
+stand-as-before : (n room : ℕ) (recs : List Record) → EachHolds Is6021 recs → oneBehindAnother (nextTelegram (plain false)) n room recs ≡ oneBehindAnother nextBefore n room recs
 unfolding oneBehindAnother
 stand-as-before zero room recs are = refl
 stand-as-before (suc n) room [] are = refl
@@ -274,7 +254,7 @@ not-16 true L5050 other e = absurd (omega arith)
 not-16 false L5050 other e = absurd (omega arith)
 
 no-choice : NoChoiceMakesAnothersBare6021
-no-choice layout status weekday date time good choice other same =
+no-choice choice (Dated layout status weekday date time) fine other same =
     let rec = Dated layout status weekday date time in
     let form = Dated L6021 status weekday date time in
     let written = was-made choice rec (telegramOf false form) same in
@@ -285,10 +265,11 @@ no-choice layout status weekday date time good choice other same =
     go (Named setting) r e size =
         not-16 (setting .control) layout other (ap (lengthOf (setting .control)) (sym (own-kept setting (Dated layout status weekday date time) r e)) ∙ size)
     go Unnamed r e size =
-        let told : done (Dated L6021 status weekday date time) ≡ done r = sym (asked (Dated layout status weekday date time) (Dated L6021 status weekday date time) good refl) ∙ e in
+        let told : done (Dated L6021 status weekday date time) ≡ done r = sym (asked (Dated layout status weekday date time) fine) ∙ e in
         let is : Dated L6021 status weekday date time ≡ r = cc in
         let eighteen : _≡_ {A = ℕ} 18 16 = ap (λ rec. lengthOf true (ownLayout rec)) is ∙ size in
         absurd (omega arith)
+no-choice choice (TimeOnly layout time) fine other same = let z : _≡_ {A = ℕ} 0 1 = cc in absurd (omega arith)
 
 pub unnamed-writes : UnnamedWritesAreAsAskedFor
 unfolding unless within codeCharacter render isLeap monthLength monthInRange dateInRange dayExists monthStart dayOf timeInRange timeAllowed statusAllowed weekdayAllowed weekdayAgrees datedRefusal placesOf statusOut6021 bodyBytes telegramFor

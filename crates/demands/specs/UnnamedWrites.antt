@@ -14,16 +14,13 @@ use Rattle.laying.specs.OneBehindAnother.{Next, nothing, part, oneBehindAnother
 use Rattle.ascii.specs.Ascii.{ascii}
 use Rattle.ascii.specs.Control.{stx, etx, lfCr}
 use Rattle.calendar.specs.Literals.{date, time}
-use Rattle.calendar.specs.declared.date.Date.{Date}
 use Rattle.calendar.specs.declared.time.Time.{Time}
-use Rattle.record.specs.declared.DatedLayout.{DatedLayout}
 use Rattle.record.specs.declared.DatedLayout.the-variants.{L6021}
 use Rattle.record.specs.declared.TimeLayout.{TimeLayout}
-use Rattle.record.specs.declared.Status.{Status}
 use Rattle.record.specs.declared.Record.{Record}
 use Rattle.record.specs.declared.Record.the-variants.{Dated, TimeOnly}
 use Rattle.record.specs.declared.RecordAnswer.the-variants as answer
-use Rattle.record.specs.Rule.{refusalOf}
+use Rattle.record.specs.Rule.{refusalOf, carriesDate}
 use Rattle.layouts.specs.declared.Layout.the-variants as layouts
 use Rattle.layouts.specs.Layouts.{ownLayout}
 use Rattle.telegram.specs.declared.write.Choice.{Choice}
@@ -64,31 +61,33 @@ TheBytesOfBeforeBetweenStxAndEtx =
 abbrev pub BeforeAllBytesWereStray : (Reader → List ℕ → Calls) → Type 0
 BeforeAllBytesWereStray call = (rec : Record) (bytes : List ℕ) → unnamedBefore rec ≡ done bytes → GivesBack call bytes [] 16
 
--- any good record with a date, and its 6021 form, which has the same fields
-abbrev pub EachGoodDated : (Record → Record → Type 0) → Type 0
-EachGoodDated Holds =
-    (layout : DatedLayout) (status : Status) (weekday : ℕ) (date : Date) (time : Time) → Good (Dated layout status weekday date time)
-    → Holds (Dated layout status weekday date time) (Dated L6021 status weekday date time)
+-- a good record with a date, and its 6021 form, which has the same fields; a time-only record has none, and is left
+abbrev pub GoodDated : Record → Type 0
+GoodDated rec = Good rec × (carriesDate rec ≡ true)
+
+abbrev pub form6021 : Record → Record
+form6021 (Dated layout status weekday date time) = Dated L6021 status weekday date time
+form6021 (TimeOnly layout time) = TimeOnly layout time
 
 -- the reason for the request: what an unnamed write makes of such a record, the line reader hands back as its 6021 form, and no byte is
 -- stray
 abbrev pub TheLineReaderSeesIt : (Reader → List ℕ → Calls) → Type 0
 TheLineReaderSeesIt call =
-    EachGoodDated (λ rec form. (room : ℕ) (bytes : List ℕ) → writes Unnamed rec room ≡ done bytes → GivesBack call bytes (Event (answer.Good form) 0 18 ∷ []) 0)
+    (rec : Record) (room : ℕ) (bytes : List ℕ) → GoodDated rec → writes Unnamed rec room ≡ done bytes
+    → GivesBack call bytes (Event (answer.Good (form6021 rec)) 0 18 ∷ []) 0
 
 -- "An unnamed setting now means 6021 with control characters", without second advance: into every buffer it writes, or refuses, as that
 -- setting does by name of the 6021 form
 abbrev pub UnnamedMeans6021WithControlCharacters : Type 0
-UnnamedMeans6021WithControlCharacters = EachGoodDated (λ rec form. (room : ℕ) → writes Unnamed rec room ≡ writes (plain true) form room)
+UnnamedMeans6021WithControlCharacters = (rec : Record) (room : ℕ) → GoodDated rec → writes Unnamed rec room ≡ writes (plain true) (form6021 rec) room
 
 -- "a buffer of 16 bytes is then too short, with 13", as is one of 17: it has 18 bytes
 abbrev pub ItHas18Bytes : Type 0
 ItHas18Bytes =
-    EachGoodDated
-    (λ rec form.
-    (length (telegramOf true form) ≡ 18)
-    × ((room : ℕ) → 18 ≤ room → writes Unnamed rec room ≡ done (telegramOf true form))
-    × ((room : ℕ) → room < 18 → writes Unnamed rec room ≡ refused 13))
+    (rec : Record) (room : ℕ) → GoodDated rec
+    → (length (telegramOf true (form6021 rec)) ≡ 18)
+    × (18 ≤ room → writes Unnamed rec room ≡ done (telegramOf true (form6021 rec)))
+    × (room < 18 → writes Unnamed rec room ≡ refused 13)
 
 -- a time-only record is still 14, whatever the buffer's length; 5 to 8 come first
 abbrev pub TimeAloneIsStill14 : Type 0
@@ -98,33 +97,22 @@ TimeAloneIsStill14 =
 abbrev pub TheRecordsOwnComesFirst : Type 0
 TheRecordsOwnComesFirst = (rec : Record) (room : ℕ) → (Good rec → ⊥) → writes Unnamed rec room ≡ refused (refusalOf rec)
 
--- Several telegrams follow: good records with a date, and their 6021 forms
-abbrev pub AreThe6021FormsOf : List Record → List Record → Type 0
-AreThe6021FormsOf [] [] = Unit {0}
-AreThe6021FormsOf (form ∷ forms) (rec ∷ recs) = Good rec × (as6021 rec ≡ done form) × AreThe6021FormsOf forms recs
-AreThe6021FormsOf [] (rec ∷ recs) = ⊥
-AreThe6021FormsOf (form ∷ forms) [] = ⊥
-
--- one event every 18 bytes
+-- Several telegrams follow: of good records with a date, written one behind another where there is room, all stand, and the line reader
+-- hands back their 6021 forms, one every 18 bytes
 abbrev pub everyEighteen : ℕ → List Record → List Heard
 everyEighteen from [] = []
-everyEighteen from (form ∷ forms) = Event (answer.Good form) (from % 2 ^ 32) 18 ∷ everyEighteen (from + 18) forms
+everyEighteen from (rec ∷ recs) = Event (answer.Good (form6021 rec)) (from % 2 ^ 32) 18 ∷ everyEighteen (from + 18) recs
 
--- written one behind another where there is room, all of them stand, and the line reader sees them all
 abbrev pub SeveralFollow : (Reader → List ℕ → Calls) → Type 0
 SeveralFollow call =
-    (recs forms : List Record) (buffer : List ℕ) → AreThe6021FormsOf forms recs → 18 * length recs ≤ length buffer
+    (recs : List Record) (buffer : List ℕ) → EachHolds GoodDated recs → 18 * length recs ≤ length buffer
     → (severalAll Unnamed recs noneYet buffer .0 ≡ record { count = length recs % 2 ^ 64; used = 18 * length recs; ending = Whole })
-    × GivesBack call (take (18 * length recs) (severalAll Unnamed recs noneYet buffer .1)) (everyEighteen 0 forms) 0
+    × GivesBack call (take (18 * length recs) (severalAll Unnamed recs noneYet buffer .1)) (everyEighteen 0 recs) 0
 
 -- "Two of our meter programs rely on bare output: they hand over 6021 records, must now name it and produce the same bytes as before": of
 -- every 6021 record and with every buffer the named bare write answers and leaves what the unnamed one did; and so several do
 abbrev pub Is6021 : Record → Type 0
 Is6021 rec = ownLayout rec ≡ layouts.Dated L6021
-
-abbrev pub Are6021 : List Record → Type 0
-Are6021 [] = Unit {0}
-Are6021 (rec ∷ recs) = Is6021 rec × Are6021 recs
 
 abbrev pub NamedBareDoesWhatUnnamedDid : Type 0
 NamedBareDoesWhatUnnamedDid =
@@ -132,13 +120,13 @@ NamedBareDoesWhatUnnamedDid =
 
 abbrev pub SeveralNamedBareDoSo : Type 0
 SeveralNamedBareDoSo =
-    (several : Several) (recs : List Record) (buffer : List ℕ) → Are6021 recs
+    (several : Several) (recs : List Record) (buffer : List ℕ) → EachHolds Is6021 recs
     → severalAfter (plain false) several recs buffer ≡ severalBefore several recs buffer
 
 -- but of a record of another layout no choice makes the bare 6021
 abbrev pub NoChoiceMakesAnothersBare6021 : Type 0
 NoChoiceMakesAnothersBare6021 =
-    EachGoodDated (λ rec form. (choice : Choice) → (Is6021 rec → ⊥) → telegramFor choice rec ≡ done (telegramOf false form) → ⊥)
+    (choice : Choice) (rec : Record) → GoodDated rec → (Is6021 rec → ⊥) → telegramFor choice rec ≡ done (telegramOf false (form6021 rec)) → ⊥
 
 -- two short cases, P1 and P11 of the boundary table, in the 16 bytes that were enough
 abbrev pub meterCases : List (Record × List ℕ)
