@@ -2,10 +2,11 @@
 use mathlib.Core.Path.{refl}
 use Rattle.refusals.specs.Refusals.{unless}
 use Rattle.board.specs.Rates.{rateRow}
-use Rattle.board.specs.Of6036.{parameterIn, switchesFor, offered, byteFor}
+use Rattle.board.specs.Settings.{isOffered}
+use Rattle.board.specs.Of6036.{parameterIn, switchesFor, byteFor}
 use Rattle.board.specs.AsPrinted.{The6036IsAsPrinted}
 
 pub of-6036-as-printed : The6036IsAsPrinted
-unfolding unless rateRow parameterIn switchesFor offered byteFor
+unfolding unless rateRow isOffered parameterIn switchesFor byteFor
 of-6036-as-printed =
     ((refl, refl), refl, (refl, refl), refl, (refl, refl), refl, (refl, refl), refl, (refl, refl), refl, refl, refl, refl, refl)

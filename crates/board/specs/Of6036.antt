@@ -1,14 +1,15 @@
 -- Document 01, "6036 parameter byte": what the switches of a 6036 mean, and the byte of a setting.
-use mathlib.Core.Bool.{Bool, true, false, cond, not, _&&_, _||_}
+use mathlib.Core.Bool.{Bool, true, false, cond, not}
 use mathlib.Core.List.{List, [], _∷_}
 use Prim.Native.Nat.{ℕ}
-use lib.Dec.{ltb, eqb}
+use lib.Dec.{eqb}
 use Rattle.refusals.specs.Refusals.{_when_, Outcome, unless}
 use Rattle.board.specs.declared.Parity.{Parity}
 use Rattle.board.specs.declared.Parity.the-variants.{None, Even, Odd}
 use Rattle.board.specs.declared.of_6036.Parameter.{Parameter}
 use Rattle.board.specs.Switches.{switch, byteOf}
 use Rattle.board.specs.Rates.{rateAt, rateRow, firstAt, secondAt, thirdAt}
+use Rattle.board.specs.Settings.{isOffered}
 
 -- "2 on: 8 data bits, off: 7"
 abbrev pub dataBitsIn : ℕ → ℕ
@@ -55,12 +56,8 @@ switchesFor parameter =
     ∷ eqb (parameter .«stop_bits») 1
     ∷ firstAt (rateRow (parameter .baud)) ∷ secondAt (rateRow (parameter .baud)) ∷ thirdAt (rateRow (parameter .baud)) ∷ []
 
--- what the board offers: 8 or 7 data bits, 1 or 2 stop bits, one of the eight rates
-unfoldable pub offered : Parameter → Bool
-offered parameter =
-    (eqb (parameter .«data_bits») 8 || eqb (parameter .«data_bits») 7)
-    && ((eqb (parameter .«stop_bits») 1 || eqb (parameter .«stop_bits») 2)
-    && ltb (rateRow (parameter .baud)) 8)
+abbrev pub offered : Parameter → Bool
+offered parameter = isOffered (parameter .«data_bits») (parameter .«stop_bits») (parameter .baud)
 
 -- "any other setting: 16"
 unfoldable pub byteFor : Parameter → Outcome ℕ

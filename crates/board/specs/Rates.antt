@@ -1,4 +1,4 @@
--- Document 01, "6036 parameter byte": the baud table.
+-- Document 01, "6036 parameter byte", and document 02, f: the baud table, the same on both boards but for the order of its switches.
 use mathlib.Core.Bool.{Bool, cond, not}
 use mathlib.Core.List.{List, [], _∷_}
 use Prim.Native.Nat.{ℕ, suc, _+_, _*_, _/_, _%_}

@@ -1,5 +1,5 @@
--- Document 01, "6036 parameter byte": the eight switches of a byte.
-use mathlib.Core.Bool.{Bool, true}
+-- Document 01, "6036 parameter byte", and document 02, f: the eight switches of a byte.
+use mathlib.Core.Bool.{Bool, true, false}
 use mathlib.Core.List.{List, [], _∷_}
 use Prim.Native.Nat.{ℕ, _+_, _-_, _*_, _/_, _%_, _^_}
 use lib.Dec.{eqb}
@@ -23,3 +23,9 @@ unfoldable pub withSwitch4 : ℕ → ℕ
 withSwitch4 byte =
     byteOf
     (switch 1 byte ∷ switch 2 byte ∷ switch 3 byte ∷ true ∷ switch 5 byte ∷ switch 6 byte ∷ switch 7 byte ∷ switch 8 byte ∷ [])
+
+-- a byte with its switch 1 off, and every other switch as it stands
+unfoldable pub withoutSwitch1 : ℕ → ℕ
+withoutSwitch1 byte =
+    byteOf
+    (false ∷ switch 2 byte ∷ switch 3 byte ∷ switch 4 byte ∷ switch 5 byte ∷ switch 6 byte ∷ switch 7 byte ∷ switch 8 byte ∷ [])

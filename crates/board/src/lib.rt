@@ -1,13 +1,17 @@
 // The parameter byte of a clock board: eight switches that say how the board sends on its serial line.
 // What a switch means is the board's own matter, in a module for each board.
 pub mod of_6036;
+pub mod of_6038;
 
 ghost use mathlib.Core.Path.{_≡_};
 ghost use mathlib.Core.Bool.{cond, _||_};
+ghost use mathlib.Core.List.{[], _∷_};
 ghost use Prim.Native.Nat.{_*_, _≤_};
 ghost use lib.Dec.{eqb};
 ghost use Rattle.bits.specs.Bits.{bit};
+ghost use Rattle.board.specs.Switches.{byteOf};
 ghost use Rattle.board.specs.Rates.{rateAt, rateRow};
+ghost use Rattle.board.specs.Settings.{atParity, isOffered};
 
 // The parity bit of a character.
 pub enum Parity {
@@ -93,4 +97,51 @@ fn row_of(baud: u32) -> u8
         row += 1;
     }
     8
+}
+
+// What a switch is at a parity, of what it is at none, at even and at odd.
+fn at_parity(parity: Parity, none: bool, even: bool, odd: bool) -> bool
+    ensures { λ r. ⌜ r ≡ atParity parity none even odd ⌝ }
+{
+    match parity {
+        Parity::None => none,
+        Parity::Even => even,
+        Parity::Odd => odd,
+    }
+}
+
+// Whether the boards have switches for these three. They have some for every parity.
+fn is_offered(data_bits: u8, stop_bits: u8, baud: u32) -> bool
+    ensures { λ r. ⌜ r ≡ isOffered «data_bits» «stop_bits» baud ⌝ }
+{
+    if !is_either(data_bits, 8, 7) {
+        return false;
+    }
+    if !is_either(stop_bits, 1, 2) {
+        return false;
+    }
+    row_of(baud) < 8
+}
+
+// The byte of eight switches, from switch 1 on.
+fn byte_of(
+    first: bool,
+    second: bool,
+    third: bool,
+    fourth: bool,
+    fifth: bool,
+    sixth: bool,
+    seventh: bool,
+    eighth: bool,
+) -> u8
+    ensures { λ r. ⌜ r ≡ byteOf (first ∷ second ∷ third ∷ fourth ∷ fifth ∷ sixth ∷ seventh ∷ eighth ∷ []) ⌝ }
+{
+    weigh(SWITCH_1, first)
+        + weigh(SWITCH_2, second)
+        + weigh(SWITCH_3, third)
+        + weigh(SWITCH_4, fourth)
+        + weigh(SWITCH_5, fifth)
+        + weigh(SWITCH_6, sixth)
+        + weigh(SWITCH_7, seventh)
+        + weigh(SWITCH_8, eighth)
 }

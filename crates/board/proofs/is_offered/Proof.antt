@@ -1,23 +1,23 @@
--- `board::of_6036::is_offered` meets its contract.
+-- `board::is_offered` meets its contract.
 use mathlib.Core.Path.{sym, _∙_}
 use borrow.Author.Tests.{not-true, not-false}
-use Rattle.board.specs.Of6036.{offered}
+use Rattle.board.specs.Settings.{isOffered}
 use borrow.Author.Needs.{needs}
-use Rattle.board.proofs.of_6036.is_offered.Statement.{statement}
-use Rattle.board.proofs.of_6036.is_offered.Tie as tie
+use Rattle.board.proofs.is_offered.Statement.{statement}
+use Rattle.board.proofs.is_offered.Tie as tie
 
 is-either-requires : tie.Need-is-either-requires
 is-either-requires c κs = search needs
 
 returns : tie.Need-returns
-unfolding offered
+unfolding isOffered
 returns c = rw (sym (c .before .is-either .ensures) ∙ not-true _ (c .if1 .taken))
 
 is-either-requires-2 : tie.Need-is-either-requires-2
 is-either-requires-2 c κs = search needs
 
 returns-2 : tie.Need-returns-2
-unfolding offered
+unfolding isOffered
 returns-2 c =
     rw
     (sym (c .before .before .before .is-either .ensures) ∙ not-false _ (c .before .before .if1 .left), sym (c .before .is-either2 .ensures) ∙ not-true _ (c .if2 .taken))
@@ -26,7 +26,7 @@ row-of-requires : tie.Need-row-of-requires
 row-of-requires c κs = search needs
 
 returns-3 : tie.Need-returns-3
-unfolding offered
+unfolding isOffered
 returns-3 c =
     rw
     (c .row-of .ensures, sym (c .before .before .before .before .is-either .ensures) ∙ not-false _ (c .before .before .before .if1 .left), sym (c .before .before .is-either2 .ensures) ∙ not-false _ (c .before .if2 .left))

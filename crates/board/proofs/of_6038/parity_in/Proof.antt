@@ -1,0 +1,19 @@
+-- `board::of_6038::parity_in` meets its contract.
+use borrow.Author.Tests.{eq-eqb, ne-eqb}
+use Rattle.board.proofs.of_6038.parity_in.Statement.{statement}
+use Rattle.board.proofs.of_6038.parity_in.Tie as tie
+
+returns : tie.Need-returns
+returns c = rw (eq-eqb _ _ (c .before .if1 .taken), eq-eqb _ _ (c .if2 .taken))
+
+returns-2 : tie.Need-returns-2
+returns-2 c = rw (eq-eqb _ _ (c .before .if1 .taken), ne-eqb _ _ (c .if2 .left))
+
+returns-3 : tie.Need-returns-3
+returns-3 c = rw (ne-eqb _ _ (c .before .if1 .left), eq-eqb _ _ (c .if3 .taken))
+
+returns-4 : tie.Need-returns-4
+returns-4 c = rw (ne-eqb _ _ (c .before .if1 .left), ne-eqb _ _ (c .if3 .left))
+
+pub parity-in-spec : {M : Type 1} → statement M
+parity-in-spec = tie.close (tie.spec returns returns-2 returns-3 returns-4)
