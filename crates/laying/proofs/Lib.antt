@@ -1,4 +1,5 @@
 pub mod InNumbersHolds
 pub mod LayingLaws
 pub mod TailLaws
+pub mod CopyLaws
 pub mod OneBehindAnotherLaws

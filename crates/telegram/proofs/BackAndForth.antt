@@ -17,7 +17,7 @@ use Rattle.layouts.specs.Layouts.{placesOf, ownLayout, layoutOf}
 use Rattle.layouts.specs.Coding.{recordIn, digitsOut}
 use Rattle.layouts.proofs.RowLaws.{row-distinct, row-sound, row-length, row-fits, found-again}
 use Rattle.layouts.proofs.Carried.{own-layout, record-back, digits-held, digits-back}
-use Rattle.telegram.specs.Reading.{bodyOf, framed, carried, bodyRefusal, readOf}
+use Rattle.telegram.specs.Reading.{bodyOf, framed, carried, bodyRefusal, readIn, readOf}
 use Rattle.telegram.specs.Writing.{bodyBytes, telegramOf}
 use Rattle.telegram.proofs.WriteLaws.{length-body}
 use Rattle.telegram.proofs.Frames.{body-of-frame, frame-is-framed, frame-of-body}
@@ -56,7 +56,7 @@ module _ (rec : Record) (none : refusalOf rec ≡ 0) where
 
   -- (a) what the writer makes of a good record reads back as that record
   pub written-reads-back : (control : Bool) → readOf control (telegramOf control rec) ≡ done rec
-  unfolding readOf
+  unfolding readIn
   written-reads-back control =
       rw (telegram-body control, body-layout, telegram-framed control) (does _ body-good ∙ ap done body-carries)
 
@@ -99,7 +99,7 @@ telegram-again true bytes rec e some f =
 telegram-again false bytes rec e some f = e
 
 pub accepted-is-written : (control : Bool) (bytes : List ℕ) (rec : Record) → readOf control bytes ≡ done rec → Accepted control bytes rec
-unfolding readOf
+unfolding readIn
 accepted-is-written control bytes rec = go (layoutOf (bodyOf control bytes)) refl
   where
     body : List ℕ

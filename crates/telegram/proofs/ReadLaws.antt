@@ -15,7 +15,7 @@ use Rattle.layouts.specs.declared.rows.Span.{Span}
 use Rattle.layouts.specs.Layouts.{placesOf, allRows, spanOf, layoutOf}
 use Rattle.layouts.specs.Coding.{recordIn}
 use Rattle.layouts.proofs.RowLaws.{span-row}
-use Rattle.telegram.specs.Reading.{bodyOf, framed, carried, bodyRefusal, readBodyAs, readOf}
+use Rattle.telegram.specs.Reading.{bodyOf, framed, carried, bodyRefusal, readBodyAs, readIn, readOf}
 
 -- what a scan by the kept rows finds is what the table's row says
 pub seen : (found : Found) (layout : Layout) (span : Span) (rows body : List ℕ) → span ≡ spanOf layout → rows ≡ allRows
@@ -54,22 +54,22 @@ body-between bytes =
     let same : length bytes - 1 - 1 ≡ length bytes - 2 = omega arith in ap (λ n. take n (drop 1 bytes)) same
 
 pub too-short : (bytes : List ℕ) → length bytes < 2 → refused 1 ≡ readOf true bytes
-unfolding readOf layoutOf
+unfolding readIn layoutOf
 too-short bytes h =
     let none : length bytes - 2 ≡ 0 = omega arith in
     rw none
 
 module _ (control : Bool) (bytes : List ℕ) where
   pub no-layout : (n : ℕ) → layoutOf (bodyOf control bytes) ≡ refused n → refused n ≡ readOf control bytes
-  unfolding readOf
+  unfolding readIn
   no-layout n e = rw e
 
   pub not-framed : (layout : Layout) → layoutOf (bodyOf control bytes) ≡ done layout → (control && not (framed bytes)) ≡ true
       → refused 2 ≡ readOf control bytes
-  unfolding readOf unless
+  unfolding readIn unless
   not-framed layout e f = rw (e, f)
 
   pub by-body : (layout : Layout) → layoutOf (bodyOf control bytes) ≡ done layout → (control && not (framed bytes)) ≡ false
       → readBodyAs layout (bodyOf control bytes) ≡ readOf control bytes
-  unfolding readOf readBodyAs
+  unfolding readIn readBodyAs
   by-body layout e f = rw (e, f)

@@ -16,11 +16,12 @@ use Rattle.record.proofs.NextLaws.{next-good}
 use Rattle.record.proofs.RuleLaws as rule
 use Rattle.telegram.specs.declared.write.Setting.{Setting}
 use Rattle.telegram.specs.declared.write.Choice.{Choice}
-use Rattle.telegram.specs.declared.write.Choice.the-variants.{Named, Unnamed}
-use Rattle.telegram.specs.Reading.{readOf}
-use Rattle.telegram.specs.Writing.{judgedOf, as6021, recordToWrite, controlOf, telegramFor, written}
+use Rattle.telegram.specs.declared.write.Choice.the-variants.{Named, NamedIn, Unnamed}
+use Rattle.trailer.specs.declared.Order.{Order}
+use Rattle.telegram.specs.Reading.{readIn, readOf}
+use Rattle.telegram.specs.Writing.{judgedOf, as6021, recordBy, recordToWrite, controlOf, orderOf, telegramFor, written}
 use Rattle.telegram.proofs.WriteLaws.{was-made}
-use Rattle.telegram.proofs.BackAndForth.{written-reads-back}
+use Rattle.telegram.proofs.InOrder.{reads-back}
 
 -- the record that a choice writes is good
 as-6021-good : (rec same : Record) → refusalOf rec ≡ 0 → as6021 rec ≡ done same → refusalOf same ≡ 0
@@ -42,12 +43,16 @@ as-6021-good (TimeOnly layout time) same none e = let z : _≡_ {A = ℕ} 0 1 = 
 judged-good : (rec same : Record) → judgedOf rec ≡ done same → (refusalOf rec ≡ 0) × (rec ≡ same)
 judged-good rec same e = was-done (refusalOf rec) rec same e
 
-pub written-is-good : (choice : Choice) (rec same : Record) → recordToWrite choice rec ≡ done same → refusalOf same ≡ 0
-written-is-good (Named setting) rec same = go (setting .advance)
+set-is-good : (setting : Setting) (rec same : Record) → recordBy setting rec ≡ done same → refusalOf same ≡ 0
+set-is-good setting rec same = go (setting .advance)
   where
     go : (advance : Bool) → cond advance (nextSecondOf rec) (judgedOf rec) ≡ done same → refusalOf same ≡ 0
     go true e = next-good rec same e
     go false e = let j = judged-good rec same e in ap refusalOf (sym (j .1)) ∙ j .0
+
+pub written-is-good : (choice : Choice) (rec same : Record) → recordToWrite choice rec ≡ done same → refusalOf same ≡ 0
+written-is-good (Named setting) rec same = set-is-good setting rec same
+written-is-good (NamedIn setting order) rec same = set-is-good setting rec same
 written-is-good Unnamed rec same = go (judgedOf rec) refl
   where
     go : (o : Outcome Record) → judgedOf rec ≡ o → after o as6021 ≡ done same → refusalOf same ≡ 0
@@ -56,10 +61,12 @@ written-is-good Unnamed rec same = go (judgedOf rec) refl
 
 -- what a write makes reads back as the record that the choice asks for, whatever the room
 pub write-reads-back : (choice : Choice) (rec : Record) (room : ℕ) (bytes : List ℕ) → written choice rec room ≡ done bytes
-    → readOf (controlOf choice) bytes ≡ recordToWrite choice rec
+    → readIn (orderOf choice) (controlOf choice) bytes ≡ recordToWrite choice rec
 write-reads-back choice rec room bytes e =
     let made = was-made choice rec bytes (within-done room (telegramFor choice rec) bytes e .0) in
-    ap (readOf (controlOf choice)) (sym (made .2)) ∙ written-reads-back (made .0) (written-is-good choice rec (made .0) (made .1)) (controlOf choice) ∙ sym (made .1)
+    ap (readIn (orderOf choice) (controlOf choice)) (sym (made .2))
+    ∙ reads-back (orderOf choice) (controlOf choice) (made .0) (written-is-good choice rec (made .0) (made .1))
+    ∙ sym (made .1)
 
 -- (c) written with second advance it reads back as the next second
 pub advance-reads-back : (setting : Setting) (rec : Record) (room : ℕ) (bytes : List ℕ) → setting .advance ≡ true

@@ -16,7 +16,8 @@ use Rattle.layouts.specs.declared.rows.Span.{Span}
 use Rattle.layouts.specs.Layouts.{placesOf, allRows, spanOf, ownLayout}
 use Rattle.layouts.specs.Coding.{digitsOut}
 use Rattle.layouts.proofs.RowLaws.{span-row, span-ends, row-length}
-use Rattle.telegram.specs.Writing.{bodyBytes, telegramOf, recordToWrite, controlOf, telegramFor}
+use Rattle.trailer.specs.declared.Order.{Order}
+use Rattle.telegram.specs.Writing.{bodyBytes, telegramIn, telegramOf, recordToWrite, controlOf, orderOf, telegramFor}
 use Rattle.telegram.specs.declared.write.Choice.{Choice}
 
 pub length-body : (rec : Record) → length (bodyBytes rec) ≡ length (placesOf (ownLayout rec))
@@ -95,17 +96,17 @@ module _ (choice : Choice) (rec : Record) where
   unfolding telegramFor
   telegram-refused k e = rw e
 
-  pub telegram-made : (control : Bool) (good : Record) → recordToWrite choice rec ≡ done good → controlOf choice ≡ control
-      → telegramFor choice rec ≡ done (telegramOf control good)
+  pub telegram-made : (order : Order) (control : Bool) (good : Record) → recordToWrite choice rec ≡ done good → orderOf choice ≡ order → controlOf choice ≡ control
+      → telegramFor choice rec ≡ done (telegramIn order control good)
   unfolding telegramFor
-  telegram-made control good e f = rw (e, f)
+  telegram-made order control good e o f = rw (e, o, f)
 
   -- and is good, where there is a telegram
-  pub was-made : (bytes : List ℕ) → telegramFor choice rec ≡ done bytes → (good : Record) × (recordToWrite choice rec ≡ done good) × (telegramOf (controlOf choice) good ≡ bytes)
+  pub was-made : (bytes : List ℕ) → telegramFor choice rec ≡ done bytes → (good : Record) × (recordToWrite choice rec ≡ done good) × (telegramIn (orderOf choice) (controlOf choice) good ≡ bytes)
   unfolding telegramFor
   was-made bytes = go (recordToWrite choice rec) refl
     where
-      go : (o : Outcome Record) → recordToWrite choice rec ≡ o → after o (λ r. done (telegramOf (controlOf choice) r)) ≡ done bytes
-          → (good : Record) × (recordToWrite choice rec ≡ done good) × (telegramOf (controlOf choice) good ≡ bytes)
+      go : (o : Outcome Record) → recordToWrite choice rec ≡ o → after o (λ r. done (telegramIn (orderOf choice) (controlOf choice) r)) ≡ done bytes
+          → (good : Record) × (recordToWrite choice rec ≡ done good) × (telegramIn (orderOf choice) (controlOf choice) good ≡ bytes)
       go (done good) is e = (good, is, cc)
       go (refused n) is e = let z : _≡_ {A = ℕ} 0 1 = cc in absurd (omega arith)

@@ -1,4 +1,4 @@
--- Document 01, "Refusal numbers", and document 02, e: writing one telegram, and several one behind another.
+-- Document 01, "Refusal numbers", and document 02, e and f: writing one telegram, and several one behind another.
 use mathlib.Core.Bool.{Bool, true, cond}
 use mathlib.Core.List.{List, [], _∷_, _++_}
 use Prim.Native.Nat.{ℕ, _+_, _-_, _%_, _^_}
@@ -9,14 +9,18 @@ use Rattle.laying.specs.declared.Ending.the-variants.{Whole, Refused}
 use Rattle.laying.specs.Laying.{within, laidIn}
 use Rattle.laying.specs.OneBehindAnother.{Next, nothing, part, Standing, joined, oneBehindAnother}
 use Rattle.ascii.specs.Control.{stx, etx}
+use Rattle.trailer.specs.declared.Order.{Order}
+use Rattle.trailer.specs.declared.Order.the-variants.{AsPrinted}
+use Rattle.trailer.specs.Trailer.{inOrder}
 use Rattle.places.specs.Places.{render}
 use Rattle.record.specs.declared.DatedLayout.the-variants.{L6021}
 use Rattle.record.specs.declared.Record.{Record}
 use Rattle.record.specs.declared.Record.the-variants.{Dated, TimeOnly}
 use Rattle.record.specs.Rule.{refusalOf}
 use Rattle.record.specs.Next.{nextSecondOf}
+use Rattle.telegram.specs.declared.write.Setting.{Setting}
 use Rattle.telegram.specs.declared.write.Choice.{Choice}
-use Rattle.telegram.specs.declared.write.Choice.the-variants.{Named, Unnamed}
+use Rattle.telegram.specs.declared.write.Choice.the-variants.{Named, NamedIn, Unnamed}
 use Rattle.telegram.specs.declared.several.Several.{Several}
 use Rattle.layouts.specs.Layouts.{placesOf, ownLayout}
 use Rattle.layouts.specs.Coding.{digitsOut}
@@ -25,9 +29,13 @@ use Rattle.layouts.specs.Coding.{digitsOut}
 unfoldable pub bodyBytes : Record → List ℕ
 bodyBytes rec = render (placesOf (ownLayout rec)) (digitsOut rec)
 
--- "STX and ETX. Without control characters both are missing"
+-- "STX and ETX. Without control characters both are missing"; the trailer in its order, with them or without
+abbrev pub telegramIn : Order → Bool → Record → List ℕ
+telegramIn order control rec = cond control (stx ∷ inOrder order (bodyBytes rec) ++ etx ∷ []) (inOrder order (bodyBytes rec))
+
+-- "as-printed if not named"
 abbrev pub telegramOf : Bool → Record → List ℕ
-telegramOf control rec = cond control (stx ∷ bodyBytes rec ++ etx ∷ []) (bodyBytes rec)
+telegramOf = telegramIn AsPrinted
 
 -- the same fields in the 6021 layout; 14: "a date is needed and the layout carries none"
 abbrev pub as6021 : Record → Outcome Record
@@ -40,18 +48,29 @@ judgedOf rec = unless (refusalOf rec) rec
 
 -- which record is written: with second advance "the telegram carries the next second"; "if a caller names no setting, a write is
 -- 6021 whatever layout the record has, .. without second advance"
+abbrev pub recordBy : Setting → Record → Outcome Record
+recordBy setting rec = cond (setting .advance) (nextSecondOf rec) (judgedOf rec)
+
 abbrev pub recordToWrite : Choice → Record → Outcome Record
-recordToWrite (Named setting) rec = cond (setting .advance) (nextSecondOf rec) (judgedOf rec)
+recordToWrite (Named setting) rec = recordBy setting rec
+recordToWrite (NamedIn setting order) rec = recordBy setting rec
 recordToWrite Unnamed rec = after (judgedOf rec) as6021
 
 -- and whether with control characters; document 02, e: "an unnamed setting now means 6021 with control characters"
 abbrev pub controlOf : Choice → Bool
 controlOf (Named setting) = setting .control
+controlOf (NamedIn setting order) = setting .control
 controlOf Unnamed = true
+
+-- and in which order the trailer stands: "as-printed if not named"
+abbrev pub orderOf : Choice → Order
+orderOf (Named setting) = AsPrinted
+orderOf (NamedIn setting order) = order
+orderOf Unnamed = AsPrinted
 
 -- the telegram that a choice makes of a record, or why there is none: 5 to 8, 12, 14
 unfoldable pub telegramFor : Choice → Record → Outcome (List ℕ)
-telegramFor choice rec = after (recordToWrite choice rec) (λ r. done (telegramOf (controlOf choice) r))
+telegramFor choice rec = after (recordToWrite choice rec) (λ r. done (telegramIn (orderOf choice) (controlOf choice) r))
 
 -- the telegram that is written into a buffer of so many bytes
 abbrev pub written : Choice → Record → ℕ → Outcome (List ℕ)

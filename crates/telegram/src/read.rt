@@ -7,10 +7,20 @@ use record::RecordAnswer;
 use refusals::FRAME;
 use refusals::LENGTH;
 use refusals::NONE;
+use trailer::Order;
+use trailer::exchange;
+use trailer::place_in;
 ghost use mathlib.Core.Path.{_≡_};
 ghost use mathlib.Core.Bool.{true};
+ghost use lib.ListN.{take};
 ghost use Rattle.record.specs.Answers.{recordAnswer};
-ghost use Rattle.telegram.specs.Reading.{framed, readBodyAs, readOf};
+ghost use Rattle.trailer.specs.declared.Order.the-variants.{Exchanged};
+ghost use Rattle.telegram.specs.Reading.{framed, readBodyAs, readIn, readOf};
+
+// No telegram is shorter or longer, with STX and ETX or without.
+const SHORTEST: usize = 8;
+
+const LONGEST: usize = 25;
 
 // A body of a known layout: what stands between STX and ETX.
 fn read_as(layout: Layout, body: &[u8]) -> RecordAnswer
@@ -67,7 +77,7 @@ fn read_framed(bytes: &[u8]) -> RecordAnswer
     }
 }
 
-// Reads one telegram: any bytes, with control characters wanted or not.
+// Reads one telegram: any bytes, with control characters wanted or not, its trailer as printed.
 pub fn read(bytes: &[u8], control: bool) -> RecordAnswer
     ensures { λ r. ⌜ recordAnswer r ≡ readOf control (now (bytes .entry)) ⌝ }
 {
@@ -77,5 +87,46 @@ pub fn read(bytes: &[u8], control: bool) -> RecordAnswer
     match layouts::rows::layout_of(bytes) {
         LayoutAnswer::Refused(number) => RecordAnswer::Refused(number),
         LayoutAnswer::Found(layout) => read_as(layout, bytes),
+    }
+}
+
+// Reads the first bytes of others.
+fn read_first(bytes: &[u8], length: usize, control: bool) -> RecordAnswer
+    ensures { λ r. ⌜ recordAnswer r ≡ readOf control (take length (now (bytes .entry))) ⌝ }
+{
+    if bytes.len() < length {
+        return read(bytes, control);
+    }
+    read(&bytes[0..length], control)
+}
+
+// Reads a copy with the trailer exchanged, which then is as printed.
+fn read_exchanged(bytes: &[u8], control: bool) -> RecordAnswer
+    ensures { λ r. ⌜ recordAnswer r ≡ readIn Exchanged control (now (bytes .entry)) ⌝ }
+{
+    let length = bytes.len();
+    if length < SHORTEST {
+        return RecordAnswer::Refused(LENGTH);
+    }
+    if LONGEST < length {
+        return RecordAnswer::Refused(LENGTH);
+    }
+    let mut copy = [0u8; LONGEST];
+    let mut at: usize = 0;
+    while at < length {
+        copy[at] = bytes[at];
+        at += 1;
+    }
+    exchange(&mut copy, place_in(length, control));
+    read_first(&copy, length, control)
+}
+
+// The same with the trailer in a named order.
+pub fn read_in(bytes: &[u8], control: bool, order: Order) -> RecordAnswer
+    ensures { λ r. ⌜ recordAnswer r ≡ readIn order control (now (bytes .entry)) ⌝ }
+{
+    match order {
+        Order::AsPrinted => read(bytes, control),
+        Order::Exchanged => read_exchanged(bytes, control),
     }
 }

@@ -9,13 +9,17 @@ use record::RecordAnswer;
 use refusals::BUFFER_SHORT;
 use refusals::NO_DATE;
 use refusals::NONE;
+use trailer::Order;
+use trailer::exchange;
+use trailer::place_in;
 ghost use mathlib.Core.Path.{_≡_};
 ghost use mathlib.Core.Bool.{true, false};
 ghost use Rattle.refusals.specs.Refusals.{done};
 ghost use Rattle.laying.specs.Laying.{laid};
 ghost use Rattle.record.specs.Answers.{recordAnswer};
 ghost use Rattle.layouts.specs.Layouts.{spanOf, ownLayout};
-ghost use Rattle.telegram.specs.Writing.{as6021, judgedOf, recordToWrite, controlOf, telegramOf, telegramFor};
+ghost use Rattle.trailer.specs.declared.Order.the-variants.{Exchanged};
+ghost use Rattle.telegram.specs.Writing.{as6021, judgedOf, recordBy, recordToWrite, controlOf, orderOf, telegramIn, telegramOf, telegramFor};
 ghost use Rattle.telegram.specs.Answers.{writeAnswer};
 
 pub struct Setting {
@@ -23,9 +27,11 @@ pub struct Setting {
     pub advance: bool,
 }
 
-// What a caller asks for: a setting by name, or none, which is a 6021 between STX and ETX without second advance.
+// What a caller asks for: a setting by name, with the order of the trailer or, as printed, without; or none, which is a 6021 between
+// STX and ETX as printed, without second advance.
 pub enum Choice {
     Named(Setting),
+    NamedIn(Setting, Order),
     Unnamed,
 }
 
@@ -61,17 +67,23 @@ fn as_6021(rec: Record) -> RecordAnswer
     }
 }
 
+// The record that a setting writes: itself, or its next second.
+fn record_by(setting: Setting, rec: Record) -> RecordAnswer
+    ensures { λ r. ⌜ recordAnswer r ≡ recordBy setting rec ⌝ }
+{
+    if setting.advance {
+        return record::next::next_second(rec);
+    }
+    judged(rec)
+}
+
 // The record whose telegram is to be written.
 fn record_to_write(choice: Choice, rec: Record) -> RecordAnswer
     ensures { λ r. ⌜ recordAnswer r ≡ recordToWrite choice rec ⌝ }
 {
     match choice {
-        Choice::Named(setting) => {
-            if setting.advance {
-                return record::next::next_second(rec);
-            }
-            judged(rec)
-        }
+        Choice::Named(setting) => record_by(setting, rec),
+        Choice::NamedIn(setting, _) => record_by(setting, rec),
         Choice::Unnamed => match judged(rec) {
             RecordAnswer::Refused(number) => RecordAnswer::Refused(number),
             RecordAnswer::Good(good) => as_6021(good),
@@ -84,7 +96,18 @@ fn control_of(choice: Choice) -> bool
 {
     match choice {
         Choice::Named(setting) => setting.control,
+        Choice::NamedIn(setting, _) => setting.control,
         Choice::Unnamed => true,
+    }
+}
+
+fn order_of(choice: Choice) -> Order
+    ensures { λ r. ⌜ r ≡ orderOf choice ⌝ }
+{
+    match choice {
+        Choice::Named(_) => Order::AsPrinted,
+        Choice::NamedIn(_, order) => order,
+        Choice::Unnamed => Order::AsPrinted,
     }
 }
 
@@ -130,6 +153,29 @@ fn lay_framed(rec: Record, out: &mut [u8]) -> WriteAnswer
     WriteAnswer::Written(length + 2)
 }
 
+// With control characters or without, as printed.
+fn lay(rec: Record, control: bool, out: &mut [u8]) -> WriteAnswer
+    ensures { λ r. ⌜ laid (done (telegramOf control rec)) (now (out .entry)) ≡ (writeAnswer r, now (out .exit)) ⌝ }
+{
+    if control {
+        return lay_framed(rec, out);
+    }
+    lay_bare(rec, out)
+}
+
+// The same, and then the trailer is exchanged where it stands.
+fn lay_exchanged(rec: Record, control: bool, out: &mut [u8]) -> WriteAnswer
+    ensures { λ r. ⌜ laid (done (telegramIn Exchanged control rec)) (now (out .entry)) ≡ (writeAnswer r, now (out .exit)) ⌝ }
+{
+    match lay(rec, control, out) {
+        WriteAnswer::Refused(number) => WriteAnswer::Refused(number),
+        WriteAnswer::Written(length) => {
+            exchange(out, place_in(length, control));
+            WriteAnswer::Written(length)
+        }
+    }
+}
+
 // Writes one telegram at the front of the buffer. A refused write leaves every byte of it as it was.
 pub fn write(rec: Record, choice: Choice, out: &mut [u8]) -> WriteAnswer
     ensures { λ r. ⌜ laid (telegramFor choice rec) (now (out .entry)) ≡ (writeAnswer r, now (out .exit)) ⌝ }
@@ -137,10 +183,11 @@ pub fn write(rec: Record, choice: Choice, out: &mut [u8]) -> WriteAnswer
     match record_to_write(choice, rec) {
         RecordAnswer::Refused(number) => WriteAnswer::Refused(number),
         RecordAnswer::Good(good) => {
-            if control_of(choice) {
-                return lay_framed(good, out);
+            let control = control_of(choice);
+            match order_of(choice) {
+                Order::AsPrinted => lay(good, control, out),
+                Order::Exchanged => lay_exchanged(good, control, out),
             }
-            lay_bare(good, out)
         }
     }
 }

@@ -4,18 +4,19 @@ use borrow.Author.Needs.{needs}
 use mathlib.Core.Path.{_≡_, refl, ap, _∙_}
 use Prim.Native.Nat.{_+_, _-_, _≤_}
 use lib.ListN.{length, length-set, take, getD}
-use Rattle.telegram.specs.Reading.{readOf}
+use Rattle.telegram.specs.Reading.{readIn}
 use Rattle.ascii.specs.Control.{etx}
 use Rattle.line.specs.Line.{places}
-use Rattle.line.proofs.Copies.{copy-step, closed}
+use Rattle.laying.proofs.CopyLaws.{copy-step}
+use Rattle.line.proofs.Copies.{closed}
 use Rattle.line.proofs.judge.judge.Statement.{statement}
 use Rattle.line.proofs.judge.judge.Tie as tie
 
 abbrev Inv-loop : tie.InvT-loop
-Inv-loop len held size whole₀ at₀ whole at = (at ≤ size) × (length whole ≡ places + 1) × (take at whole ≡ take at held)
+Inv-loop len order held size whole₀ at₀ whole at = (at ≤ size) × (length whole ≡ places + 1) × (take at whole ≡ take at held)
 
 abbrev μ-loop : tie.MeasureT-loop
-μ-loop len held size whole₀ at₀ whole at = size - at
+μ-loop len order held size whole₀ at₀ whole at = size - at
 
 capped-requires : tie.Need-capped-requires Inv-loop μ-loop
 capped-requires c κs = search needs
@@ -51,24 +52,24 @@ array-write-whole-2 c = omega (arith, c .before .before .capped .ensures)
 add-end : tie.Need-add-end Inv-loop μ-loop
 add-end c = omega arith
 
-sub-read : tie.Need-sub-read Inv-loop μ-loop
-sub-read c = omega arith
+sub-read-in : tie.Need-sub-read-in Inv-loop μ-loop
+sub-read-in c = omega arith
 
-part-read-start : tie.Need-part-read-start Inv-loop μ-loop
-part-read-start c = search needs
+part-read-in-start : tie.Need-part-read-in-start Inv-loop μ-loop
+part-read-in-start c = search needs
 
-part-read-end : tie.Need-part-read-end Inv-loop μ-loop
-part-read-end c = omega (arith, length-set (c .before .before .loop .whole) (c .before .before .loop .at) etx, c .before .before .before .capped .ensures, c .before .before .loop .inv .1)
+part-read-in-end : tie.Need-part-read-in-end Inv-loop μ-loop
+part-read-in-end c = omega (arith, length-set (c .before .before .loop .whole) (c .before .before .loop .at) etx, c .before .before .before .capped .ensures, c .before .before .loop .inv .1)
 
-read-requires : tie.Need-read-requires Inv-loop μ-loop
-read-requires c κs = search needs
+read-in-requires : tie.Need-read-in-requires Inv-loop μ-loop
+read-in-requires c κs = search needs
 
 returns : tie.Need-returns Inv-loop μ-loop
 returns c =
     let held = c .before .before .before .before .before .before .args .t1 in
     let l = c .before .before .before .before .loop in
     let size : length held ≡ places = omega (arith, c .before .before .before .before .before .before .good) in
-    c .read .ensures ∙ ap (readOf _) (closed held (l .whole) (c .before .before .before .before .before .before .args .len) (l .at) (l .at + 1 - 0) etx (omega arith) (omega (arith, c .before .before .before .before .before .capped .ensures)) (omega (arith, c .before .before .before .before .before .capped .ensures, l .inv .1)) (l .inv .2))
+    c .read-in .ensures ∙ ap (readIn _ _) (closed held (l .whole) (c .before .before .before .before .before .before .args .len) (l .at) (l .at + 1 - 0) etx (omega arith) (omega (arith, c .before .before .before .before .before .capped .ensures)) (omega (arith, c .before .before .before .before .before .capped .ensures, l .inv .1)) (l .inv .2))
 
 pub judge-spec : {M : Type 1} → statement M
 judge-spec =
@@ -85,8 +86,8 @@ judge-spec =
     loop-again
     array-write-whole-2
     add-end
-    sub-read
-    part-read-start
-    part-read-end
-    read-requires
+    sub-read-in
+    part-read-in-start
+    part-read-in-end
+    read-in-requires
     returns)

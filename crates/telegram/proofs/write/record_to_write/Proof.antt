@@ -10,20 +10,20 @@ use Rattle.telegram.proofs.write.record_to_write.Tie as tie
 enum-known-choice : tie.Need-enum-known-choice
 enum-known-choice c = search needs
 
-next-second-requires : tie.Need-next-second-requires
-next-second-requires c κs = search needs
+record-by-requires : tie.Need-record-by-requires
+record-by-requires c κs = search needs
 
-returns : tie.Need-returns
-returns c = rw (c .before .before .before .choice .given .1, c .before .if1 .taken) (c .next-second .ensures)
+enum-known-choice-2 : tie.Need-enum-known-choice-2
+enum-known-choice-2 c = search needs
 
-judged-requires : tie.Need-judged-requires
-judged-requires c κs = search needs
+record-by-requires-2 : tie.Need-record-by-requires-2
+record-by-requires-2 c κs = search needs
 
 enum-told : tie.Need-enum-told
 enum-told c = search needs
 
-judged-requires-2 : tie.Need-judged-requires-2
-judged-requires-2 c κs = search needs
+judged-requires : tie.Need-judged-requires
+judged-requires c κs = search needs
 
 enum-known-number : tie.Need-enum-known-number
 enum-known-number c = search needs
@@ -34,32 +34,36 @@ enum-known-good c = search needs
 as-6021-requires : tie.Need-as-6021-requires
 as-6021-requires c κs = search needs
 
+returns : tie.Need-returns
+returns c = rw (c .before .before .choice .given .1) (c .record-by .ensures)
+
 returns-2 : tie.Need-returns-2
-returns-2 c = rw (c .before .before .before .choice .given .1, c .before .if1 .left) (c .judged .ensures)
+returns-2 c = rw (c .before .before .choice2 .given .1) (c .record-by2 .ensures)
 
 returns-3 : tie.Need-returns-3
 returns-3 c =
     rw (c .before .before .before .before .enum-told .given .1)
-    (ap (λ o. after o as6021) (ap recordAnswer (sym (c .before .number .given .1)) ∙ c .before .before .before .judged2 .ensures))
+    (ap (λ o. after o as6021) (ap recordAnswer (sym (c .before .number .given .1)) ∙ c .before .before .before .judged .ensures))
 
 returns-4 : tie.Need-returns-4
 returns-4 c =
     rw (c .before .before .before .before .before .enum-told .given .1)
-    (c .as-6021 .ensures ∙ ap (λ o. after o as6021) (ap recordAnswer (sym (c .before .before .good2 .given .1)) ∙ c .before .before .before .before .judged2 .ensures))
+    (c .as-6021 .ensures ∙ ap (λ o. after o as6021) (ap recordAnswer (sym (c .before .before .good2 .given .1)) ∙ c .before .before .before .before .judged .ensures))
 
 pub record-to-write-spec : {M : Type 1} → statement M
 record-to-write-spec =
     tie.close
     (tie.spec
     enum-known-choice
-    next-second-requires
-    returns
-    judged-requires
+    record-by-requires
+    enum-known-choice-2
+    record-by-requires-2
     enum-told
-    judged-requires-2
+    judged-requires
     enum-known-number
     enum-known-good
     as-6021-requires
+    returns
     returns-2
     returns-3
     returns-4)

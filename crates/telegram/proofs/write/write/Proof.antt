@@ -20,35 +20,47 @@ enum-known-good c = search needs
 control-of-requires : tie.Need-control-of-requires
 control-of-requires c κs = search needs
 
-lay-framed-requires : tie.Need-lay-framed-requires
-lay-framed-requires c κs = search needs
+order-of-requires : tie.Need-order-of-requires
+order-of-requires c κs = search needs
+
+enum-told : tie.Need-enum-told
+enum-told c = search needs
+
+lay-requires : tie.Need-lay-requires
+lay-requires c κs = search needs
+
+enum-told-2 : tie.Need-enum-told-2
+enum-told-2 c = search needs
+
+lay-exchanged-requires : tie.Need-lay-exchanged-requires
+lay-exchanged-requires c κs = search needs
+
+returns : tie.Need-returns
+returns c =
+    let start = c .before .before .before .before .before .args in
+    ap (λ o. laid o (start .out .now))
+    (telegram-refused (start .choice) (start .rec) _ (sym (c .before .before .before .record-to-write .ensures) ∙ ap recordAnswer (c .before .number .given .1)))
+    ∙ laid-refused _ (start .out .now)
 
 same-length : tie.Need-same-length
 same-length c = search needs
 
-returns : tie.Need-returns
-returns c =
-    ap (λ o. laid o (c .before .before .before .before .before .before .before .before .before .before .before .args .out .now))
-    (telegram-made (c .before .before .before .before .before .before .before .before .before .before .before .args .choice) (c .before .before .before .before .before .before .before .before .before .before .before .args .rec) _ _ (sym (c .before .before .before .before .before .before .before .before .before .record-to-write .ensures) ∙ ap recordAnswer (c .before .before .before .before .before .before .before .good2 .given .1)) (sym (c .before .before .before .before .before .control-of .ensures) ∙ c .before .before .before .before .if1 .taken))
-    ∙ c .before .before .lay-framed .ensures
-
-lay-bare-requires : tie.Need-lay-bare-requires
-lay-bare-requires c κs = search needs
-
 returns-2 : tie.Need-returns-2
 returns-2 c =
-    ap (λ o. laid o (c .before .before .before .before .before .args .out .now))
-    (telegram-refused (c .before .before .before .before .before .args .choice) (c .before .before .before .before .before .args .rec) _ (sym (c .before .before .before .record-to-write .ensures) ∙ ap recordAnswer (c .before .number .given .1)))
-    ∙ laid-refused _ (c .before .before .before .before .before .args .out .now)
+    let start = c .before .before .before .before .before .before .before .before .before .before .before .before .before .args in
+    ap (λ o. laid o (start .out .now))
+    (telegram-made (start .choice) (start .rec) _ _ _ (sym (c .before .before .before .before .before .before .before .before .before .before .before .record-to-write .ensures) ∙ ap recordAnswer (c .before .before .before .before .before .before .before .before .before .good2 .given .1)) (sym (c .before .before .before .before .before .before .order-of .ensures) ∙ c .before .before .before .before .enum-told .given .1) (sym (c .before .before .before .before .before .before .before .control-of .ensures)))
+    ∙ c .before .before .lay .ensures
 
 same-length-2 : tie.Need-same-length-2
 same-length-2 c = search needs
 
 returns-3 : tie.Need-returns-3
 returns-3 c =
-    ap (λ o. laid o (c .before .before .before .before .before .before .before .before .before .before .before .args .out .now))
-    (telegram-made (c .before .before .before .before .before .before .before .before .before .before .before .args .choice) (c .before .before .before .before .before .before .before .before .before .before .before .args .rec) _ _ (sym (c .before .before .before .before .before .before .before .before .before .record-to-write .ensures) ∙ ap recordAnswer (c .before .before .before .before .before .before .before .good2 .given .1)) (sym (c .before .before .before .before .before .control-of .ensures) ∙ c .before .before .before .before .if1 .left))
-    ∙ c .before .before .lay-bare .ensures
+    let start = c .before .before .before .before .before .before .before .before .before .before .before .before .before .args in
+    ap (λ o. laid o (start .out .now))
+    (telegram-made (start .choice) (start .rec) _ _ _ (sym (c .before .before .before .before .before .before .before .before .before .before .before .record-to-write .ensures) ∙ ap recordAnswer (c .before .before .before .before .before .before .before .before .before .good2 .given .1)) (sym (c .before .before .before .before .before .before .order-of .ensures) ∙ c .before .before .before .before .enum-told2 .given .1) (sym (c .before .before .before .before .before .before .before .control-of .ensures)))
+    ∙ c .before .before .lay-exchanged .ensures
 
 pub write-spec : {M : Type 1} → statement M
 write-spec =
@@ -58,10 +70,13 @@ write-spec =
     enum-known-number
     enum-known-good
     control-of-requires
-    lay-framed-requires
-    same-length
+    order-of-requires
+    enum-told
+    lay-requires
+    enum-told-2
+    lay-exchanged-requires
     returns
-    lay-bare-requires
+    same-length
     returns-2
     same-length-2
     returns-3)
