@@ -10,8 +10,9 @@ use lib.ListN.{length, length-append}
 use borrow.Author.Tests.{leb-true}
 use Rattle.refusals.specs.Refusals.{refused}
 use Rattle.ascii.specs.Control.{stx, etx}
+use Rattle.trailer.specs.declared.Order.{Order}
 use Rattle.line.specs.declared.Heard.{Heard}
-use Rattle.line.specs.Line.{places, longest, judgement, Line, Told, nothing, event, heldAfter, toldBy, strayBy, step, startOf, freshLine, freshReader, toldByEnd, heardFor, feedReader, endReader}
+use Rattle.line.specs.Line.{places, longest, judgement, Line, Told, nothing, event, heldAfter, toldBy, strayBy, step, startOf, freshLine, freshIn, toldByEnd, heardFor, feedReader, endReader}
 use Rattle.line.specs.Cuts.{tells, eventsOf, lineAfter, heardThen, feeding, bytesServed}
 use Rattle.line.specs.Account.{eventSize, lengthsOf, straysOf, sizesOf}
 use Rattle.line.specs.Sentences.{TheAccountHolds, TheAccountHoldsAfterTheEnd}
@@ -23,27 +24,27 @@ begins : (is-stx : Bool) → 0 + 1 ≡ 0 + cond is-stx 0 1 + length (cond {A = L
 begins true = refl
 begins false = refl
 
-goes-on : (held : List ℕ) (byte : ℕ) (is-etx is-stx is-full : Bool) → leb places (length held) ≡ is-full → length held ≤ places
+goes-on : (order : Order) (held : List ℕ) (byte : ℕ) (is-etx is-stx is-full : Bool) → leb places (length held) ≡ is-full → length held ≤ places
     → length held + 1
-    ≡ eventSize (cond is-etx (event (judgement held) (length held + 1)) (cond is-stx (event (refused 9) (length held)) (cond is-full (event (refused 10) longest) nothing)))
+    ≡ eventSize (cond is-etx (event (judgement order held) (length held + 1)) (cond is-stx (event (refused 9) (length held)) (cond is-full (event (refused 10) longest) nothing)))
     + 0
     + length (cond is-etx [] (cond is-stx (stx ∷ []) (cond is-full [] (held ++ byte ∷ []))))
-goes-on held byte true is-stx is-full e fits = omega arith
-goes-on held byte false true is-full e fits = omega arith
-goes-on held byte false false true e fits = omega (arith, leb-true places (length held) e)
-goes-on held byte false false false e fits = omega (arith, length-append held (byte ∷ []))
+goes-on order held byte true is-stx is-full e fits = omega arith
+goes-on order held byte false true is-full e fits = omega arith
+goes-on order held byte false false true e fits = omega (arith, leb-true places (length held) e)
+goes-on order held byte false false false e fits = omega (arith, length-append held (byte ∷ []))
 
-pub byte-account : (held : List ℕ) (byte : ℕ) → length held ≤ places
-    → length held + 1 ≡ eventSize (toldBy held byte) + strayBy held byte + length (heldAfter held byte)
-byte-account [] byte fits = begins (eqb byte stx)
-byte-account (first ∷ held) byte fits = goes-on (first ∷ held) byte (eqb byte etx) (eqb byte stx) (leb places (length (first ∷ held))) refl fits
+pub byte-account : (order : Order) (held : List ℕ) (byte : ℕ) → length held ≤ places
+    → length held + 1 ≡ eventSize (toldBy order held byte) + strayBy held byte + length (heldAfter held byte)
+byte-account order [] byte fits = begins (eqb byte stx)
+byte-account order (first ∷ held) byte fits = goes-on order (first ∷ held) byte (eqb byte etx) (eqb byte stx) (leb places (length (first ∷ held))) refl fits
 
 -- any bytes
 pub account : (line : Line) (bytes : List ℕ) → Good line
     → length (line .held) + length bytes ≡ lengthsOf line bytes + straysOf line bytes + length (lineAfter line bytes .held)
 account line [] good = omega arith
 account line (byte ∷ bytes) good =
-    omega (arith, byte-account (line .held) byte (good .fits), account (step line byte) bytes (good-step line byte good))
+    omega (arith, byte-account (line .order) (line .held) byte (good .fits), account (step line byte) bytes (good-step line byte good))
 
 pub fed-counts : (line : Line) (bytes : List ℕ) → lineAfter line bytes .fed ≡ line .fed + length bytes
 fed-counts line [] = omega arith
@@ -61,29 +62,29 @@ size-by (event outcome size) start later = refl
 pub heard-sizes : (line : Line) (bytes : List ℕ) → sizesOf (eventsOf line bytes) ≡ lengthsOf line bytes
 heard-sizes line [] = refl
 heard-sizes line (byte ∷ bytes) =
-    size-by (toldBy (line .held) byte) (startOf line) (eventsOf (step line byte) bytes) ∙ ap (λ n. eventSize (toldBy (line .held) byte) + n) (heard-sizes (step line byte) bytes)
+    size-by (toldBy (line .order) (line .held) byte) (startOf line) (eventsOf (step line byte) bytes) ∙ ap (λ n. eventSize (toldBy (line .order) (line .held) byte) + n) (heard-sizes (step line byte) bytes)
 
 -- from a fresh reader on, after any bytes
-module _ (bytes : List ℕ) where
+module _ (order : Order) (bytes : List ℕ) where
   abbrev line : Line
-  line = lineAfter freshLine bytes
+  line = lineAfter (freshLine order) bytes
 
-  stray-is : line .stray ≡ straysOf freshLine bytes
-  stray-is = stray-counts freshLine bytes ∙ zero-add (straysOf freshLine bytes)
+  stray-is : line .stray ≡ straysOf (freshLine order) bytes
+  stray-is = stray-counts (freshLine order) bytes ∙ zero-add (straysOf (freshLine order) bytes)
 
-  sum : line .fed ≡ lengthsOf freshLine bytes + straysOf freshLine bytes + length (line .held)
-  sum = fed-counts freshLine bytes ∙ account freshLine bytes good-fresh
+  sum : line .fed ≡ lengthsOf (freshLine order) bytes + straysOf (freshLine order) bytes + length (line .held)
+  sum = fed-counts (freshLine order) bytes ∙ account (freshLine order) bytes (good-fresh order)
 
 -- and so of the reader that any caller's loop leaves
 pub the-account-holds : TheAccountHolds
-the-account-holds served used =
+the-account-holds order served used =
     let bytes = bytesServed served in
-    let told = cut-anywhere (feeding feedReader) feeding-splits served freshLine freshReader good-fresh refl used in (
+    let told = cut-anywhere (feeding feedReader) feeding-splits served (freshLine order) (freshIn order) (good-fresh order) refl used in (
       ap (λ reader. reader .fed) (told .1)
-          ∙ ap (λ n. n % 2 ^ 32) (sum bytes)
-          ∙ ap (λ len. (lengthsOf freshLine bytes + straysOf freshLine bytes + len) % 2 ^ 32) (sym (ap (λ reader. reader .len) (told .1))),
-      ap sizesOf (told .0) ∙ heard-sizes freshLine bytes,
-      ap (λ reader. reader .stray) (told .1) ∙ ap (λ n. n % 2 ^ 32) (stray-is bytes),
+          ∙ ap (λ n. n % 2 ^ 32) (sum order bytes)
+          ∙ ap (λ len. (lengthsOf (freshLine order) bytes + straysOf (freshLine order) bytes + len) % 2 ^ 32) (sym (ap (λ reader. reader .len) (told .1))),
+      ap sizesOf (told .0) ∙ heard-sizes (freshLine order) bytes,
+      ap (λ reader. reader .stray) (told .1) ∙ ap (λ n. n % 2 ^ 32) (stray-is order bytes),
     )
 
 end-size : (held : List ℕ) (start : ℕ) → length held ≡ sizesOf (heardThen (heardFor (toldByEnd held) start) [])
@@ -91,16 +92,16 @@ end-size [] start = refl
 end-size (first ∷ held) start = omega arith
 
 pub the-account-holds-after-the-end : TheAccountHoldsAfterTheEnd
-the-account-holds-after-the-end served used =
+the-account-holds-after-the-end order served used =
     let bytes = bytesServed served in
-    let line = lineAfter freshLine bytes in
-    let told = cut-anywhere (feeding feedReader) feeding-splits served freshLine freshReader good-fresh refl used in
-    let ended-so = ap endReader (told .1) ∙ end-good line (good-after freshLine bytes good-fresh) in
-    let moved : lengthsOf freshLine bytes + straysOf freshLine bytes + length (line .held)
-    ≡ lengthsOf freshLine bytes + sizesOf (heardThen (heardFor (toldByEnd (line .held)) (startOf line)) []) + straysOf freshLine bytes =
+    let line = lineAfter (freshLine order) bytes in
+    let told = cut-anywhere (feeding feedReader) feeding-splits served (freshLine order) (freshIn order) (good-fresh order) refl used in
+    let ended-so = ap endReader (told .1) ∙ end-good line (good-after (freshLine order) bytes (good-fresh order)) in
+    let moved : lengthsOf (freshLine order) bytes + straysOf (freshLine order) bytes + length (line .held)
+    ≡ lengthsOf (freshLine order) bytes + sizesOf (heardThen (heardFor (toldByEnd (line .held)) (startOf line)) []) + straysOf (freshLine order) bytes =
     omega (arith, end-size (line .held) (startOf line)) in (
       ap (λ ended. ended .reader .fed) ended-so
-          ∙ ap (λ n. n % 2 ^ 32) (sum bytes ∙ moved)
-          ∙ ap (λ ended. (lengthsOf freshLine bytes + sizesOf (heardThen (ended .heard) []) + straysOf freshLine bytes) % 2 ^ 32) (sym ended-so),
-      ap (λ ended. ended .reader .stray) ended-so ∙ ap (λ n. n % 2 ^ 32) (stray-is bytes),
+          ∙ ap (λ n. n % 2 ^ 32) (sum order bytes ∙ moved)
+          ∙ ap (λ ended. (lengthsOf (freshLine order) bytes + sizesOf (heardThen (ended .heard) []) + straysOf (freshLine order) bytes) % 2 ^ 32) (sym ended-so),
+      ap (λ ended. ended .reader .stray) ended-so ∙ ap (λ n. n % 2 ^ 32) (stray-is order bytes),
     )

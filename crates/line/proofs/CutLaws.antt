@@ -7,6 +7,7 @@ use Prim.{tt}
 use native.Mathlib.Numerals.{add-one}
 use native.Mathlib.Omega.{arith}
 use lib.ListN.{length, drop, length-drop}
+use Rattle.trailer.specs.declared.Order.{Order}
 use Rattle.line.specs.declared.Reader.{Reader}
 use Rattle.line.specs.declared.Heard.{Heard}
 use Rattle.line.specs.Line.{Line, Told, nothing, event, Feeding, stopOr, feedOf, toldBy, step, startOf, readerOf, lineOf, heardFor, fedFor, freshLine, feedReader}
@@ -16,8 +17,8 @@ use Rattle.line.proofs.ReaderLaws.{reader-back}
 use Rattle.line.proofs.StaysGood.{Good, good-step, good-feed, good-line, feed-good}
 
 -- a fresh reader
-pub good-fresh : Good freshLine
-good-fresh = record { fits = omega arith; started = refl }
+pub good-fresh : (order : Order) → Good (freshLine order)
+good-fresh order = record { fits = omega arith; started = refl }
 
 -- one piece behind another
 tells-on : (told : Told) (start : ℕ) (events more : List Heard) → tells told start (events ++ more) ≡ tells told start events ++ more
@@ -27,8 +28,8 @@ tells-on (event outcome size) start events more = refl
 pub events-join : (line : Line) (piece others : List ℕ) → eventsOf line (piece ++ others) ≡ eventsOf line piece ++ eventsOf (lineAfter line piece) others
 events-join line [] others = refl
 events-join line (byte ∷ piece) others =
-    ap (tells (toldBy (line .held) byte) (startOf line)) (events-join (step line byte) piece others)
-    ∙ tells-on (toldBy (line .held) byte) (startOf line) (eventsOf (step line byte) piece) (eventsOf (lineAfter (step line byte) piece) others)
+    ap (tells (toldBy (line .order) (line .held) byte) (startOf line)) (events-join (step line byte) piece others)
+    ∙ tells-on (toldBy (line .order) (line .held) byte) (startOf line) (eventsOf (step line byte) piece) (eventsOf (lineAfter (step line byte) piece) others)
 
 pub after-join : (line : Line) (piece others : List ℕ) → lineAfter line (piece ++ others) ≡ lineAfter (lineAfter line piece) others
 after-join line [] others = refl
@@ -79,7 +80,7 @@ parts-by (event outcome size) start byte next on piece h = (refl, refl)
 pub feed-parts : (line : Line) (piece : List ℕ) → Parts (eventsOf line piece) (lineAfter line piece) (feedOf line piece) (drop (feedOf line piece .taken) piece)
 feed-parts line [] = (refl, refl)
 feed-parts line (byte ∷ piece) =
-    parts-by (toldBy (line .held) byte) (startOf line) byte (step line byte) (feedOf (step line byte) piece) piece (feed-parts (step line byte) piece)
+    parts-by (toldBy (line .order) (line .held) byte) (startOf line) byte (step line byte) (feedOf (step line byte) piece) piece (feed-parts (step line byte) piece)
 
 abbrev pub feed-splits : (line : Line) → Good line → (piece : List ℕ) → Splits line piece (calledFor (fedFor (feedOf line piece)) piece)
 feed-splits line good piece =
@@ -101,7 +102,7 @@ shorter line (byte ∷ piece) n h =
     omega (
       arith,
       length-drop (feedOf line (byte ∷ piece) .taken) (byte ∷ piece),
-      some-by (toldBy (line .held) byte) (startOf line) (step line byte) (feedOf (step line byte) piece),
+      some-by (toldBy (line .order) (line .held) byte) (startOf line) (step line byte) (feedOf (step line byte) piece),
     )
 
 pub feeding-splits : Splitting (feeding feedReader)

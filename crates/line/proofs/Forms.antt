@@ -10,6 +10,7 @@ use lib.ListN.{length, take, drop, getD, replicate, drop-of-length-le, length-ta
 use lib.Seq.{drop-cons, drop-drop, getD-take}
 use borrow.Author.Tests.{eqb-true}
 use Rattle.refusals.proofs.Laws.{both}
+use Rattle.trailer.specs.declared.Order.{Order}
 use Rattle.line.specs.Line.{places, lineWith, readerWith, startOf, readerOf, isPlain, allPlain, isStarted, allZero}
 
 -- zeros
@@ -45,12 +46,12 @@ pub start-is : (fed len start : ℕ) → fed < 2 ^ 32 → start < 2 ^ 32 → len
 start-is fed len start f s l wraps = omega (arith, wraps)
 
 -- a reader of a line, by its parts
-pub reader-is : (held : List ℕ) (fed stray start : ℕ) → fed < 2 ^ 32 → stray < 2 ^ 32 → start ≡ startOf (lineWith held fed stray)
-    → readerWith (held ++ replicate (places - length held) 0) (length held) fed stray start ≡ readerOf (lineWith held fed stray)
-reader-is held fed stray start f s is =
+pub reader-is : (order : Order) (held : List ℕ) (fed stray start : ℕ) → fed < 2 ^ 32 → stray < 2 ^ 32 → start ≡ startOf (lineWith held fed stray order)
+    → readerWith (held ++ replicate (places - length held) 0) (length held) fed stray start order ≡ readerOf (lineWith held fed stray order)
+reader-is order held fed stray start f s is =
     let fed-is : fed ≡ fed % 2 ^ 32 = omega arith in
     let stray-is : stray ≡ stray % 2 ^ 32 = omega arith in
-    λ i. readerWith (held ++ replicate (places - length held) 0) (length held) (fed-is i) (stray-is i) (is i)
+    λ i. readerWith (held ++ replicate (places - length held) 0) (length held) (fed-is i) (stray-is i) (is i) order
 
 -- the start position stays while bytes are held
 pub start-stays : (fed len n : ℕ) → len + n ≤ places → (fed + n + (2 ^ 32 - (len + n))) % 2 ^ 32 ≡ (fed + (2 ^ 32 - len)) % 2 ^ 32

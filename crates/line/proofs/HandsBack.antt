@@ -13,13 +13,15 @@ use Rattle.record.specs.declared.Record.{Record}
 use Rattle.record.specs.declared.RecordAnswer.{RecordAnswer}
 use Rattle.record.specs.declared.RecordAnswer.the-variants as answer
 use Rattle.record.specs.Rule.{refusalOf}
-use Rattle.telegram.specs.Writing.{bodyBytes, telegramOf}
-use Rattle.telegram.proofs.BackAndForth.{written-reads-back}
+use Rattle.trailer.specs.declared.Order.{Order}
+use Rattle.trailer.specs.Trailer.{inOrder}
+use Rattle.telegram.specs.Writing.{bodyBytes, telegramIn}
+use Rattle.telegram.proofs.InOrder.{reads-back}
 use Rattle.ascii.specs.Control.{stx, etx}
 use Rattle.line.specs.declared.Reader.{Reader}
 use Rattle.line.specs.declared.Heard.{Heard}
 use Rattle.line.specs.declared.Heard.the-variants.{Nothing, Event, Refused}
-use Rattle.line.specs.Line.{lineWith, judgement, Line, answerFor, readerOf, freshLine, freshReader, endReader}
+use Rattle.line.specs.Line.{lineWith, judgement, Line, answerFor, readerOf, freshLine, freshIn, endReader}
 use Rattle.line.specs.Cuts.{eventsOf, lineAfter, Calls, Served, bytesServed, heardOf, readerBehind, AllUsedUp}
 use Rattle.line.specs.SentLine.{Sent, bytesSent, noStx, allGood, eventsSent, straySent}
 use Rattle.line.proofs.FeedLaws.{outside}
@@ -35,87 +37,87 @@ gives-join line a b ea eb mid after of-a of-b = (
 )
 
 -- one telegram is one event
-module _ (rec : Record) (none : refusalOf rec ≡ 0) (fed stray : ℕ) where
+module _ (order : Order) (rec : Record) (none : refusalOf rec ≡ 0) (fed stray : ℕ) where
   abbrev body : List ℕ
-  body = bodyBytes rec
+  body = inOrder order (bodyBytes rec)
 
   abbrev size : ℕ
   size = length body
 
-  ends : Gives (lineWith (stx ∷ body) (fed + 1 + size) stray) (etx ∷ []) (Event (answer.Good rec) (fed % 2 ^ 32) (suc (size + 1)) ∷ []) (outside (fed + 1 + size + 1) stray)
+  ends : Gives (lineWith (stx ∷ body) (fed + 1 + size) stray order) (etx ∷ []) (Event (answer.Good rec) (fed % 2 ^ 32) (suc (size + 1)) ∷ []) (outside order (fed + 1 + size + 1) stray)
   ends =
-      let judged : answerFor (judgement (stx ∷ body)) ≡ answer.Good rec = ap answerFor (written-reads-back rec none true) in
-      let fits = body-fits rec in
+      let judged : answerFor (judgement order (stx ∷ body)) ≡ answer.Good rec = ap answerFor (reads-back order true rec none) in
+      let fits = body-fits order rec in
       let start : (fed + 1 + size + (2 ^ 32 - suc size)) % 2 ^ 32 ≡ fed % 2 ^ 32 = omega (arith, fits) in
       let count : suc size + 1 ≡ suc (size + 1) = omega arith in
-      ((λ i. Event (judged i) (start i) (count i) ∷ []), λ i. outside (fed + 1 + size + 1) (add-zero stray i))
+      ((λ i. Event (judged i) (start i) (count i) ∷ []), λ i. outside order (fed + 1 + size + 1) (add-zero stray i))
 
-  runs : Gives (lineWith (stx ∷ []) (fed + 1) stray) (body ++ etx ∷ []) (Event (answer.Good rec) (fed % 2 ^ 32) (suc (size + 1)) ∷ []) (outside (fed + 1 + size + 1) stray)
+  runs : Gives (lineWith (stx ∷ []) (fed + 1) stray order) (body ++ etx ∷ []) (Event (answer.Good rec) (fed % 2 ^ 32) (suc (size + 1)) ∷ []) (outside order (fed + 1 + size + 1) stray)
   runs =
-      gives-join (lineWith (stx ∷ []) (fed + 1) stray) body (etx ∷ []) [] _ _ _
-      (plain-gives stx [] (fed + 1) stray body (plain-body rec) (omega (arith, body-fits rec)))
+      gives-join (lineWith (stx ∷ []) (fed + 1) stray order) body (etx ∷ []) [] _ _ _
+      (plain-gives order stx [] (fed + 1) stray body (plain-body order rec) (omega (arith, body-fits order rec)))
       ends
 
-  pub telegram-gives : Gives (outside fed stray) (telegramOf true rec)
-      (Event (answer.Good rec) (fed % 2 ^ 32) (length (telegramOf true rec)) ∷ [])
-      (outside (fed + length (telegramOf true rec)) stray)
+  pub telegram-gives : Gives (outside order fed stray) (telegramIn order true rec)
+      (Event (answer.Good rec) (fed % 2 ^ 32) (length (telegramIn order true rec)) ∷ [])
+      (outside order (fed + length (telegramIn order true rec)) stray)
   telegram-gives =
       let count : suc (size + 1) ≡ suc (length (body ++ etx ∷ [])) = omega (arith, length-append body (etx ∷ [])) in
       let sum : fed + 1 + size + 1 ≡ fed + suc (length (body ++ etx ∷ [])) = omega (arith, length-append body (etx ∷ [])) in (
-        ap (λ s. eventsOf (lineWith (stx ∷ []) (fed + 1) s) (body ++ etx ∷ [])) (add-zero stray)
+        ap (λ s. eventsOf (lineWith (stx ∷ []) (fed + 1) s order) (body ++ etx ∷ [])) (add-zero stray)
             ∙ runs .0
             ∙ (λ i. Event (answer.Good rec) (fed % 2 ^ 32) (count i) ∷ []),
-        ap (λ s. lineAfter (lineWith (stx ∷ []) (fed + 1) s) (body ++ etx ∷ [])) (add-zero stray)
+        ap (λ s. lineAfter (lineWith (stx ∷ []) (fed + 1) s order) (body ++ etx ∷ [])) (add-zero stray)
             ∙ runs .1
-            ∙ (λ i. outside (sum i) stray),
+            ∙ (λ i. outside order (sum i) stray),
       )
 
 -- the whole line
-pub sent-gives : (sents : List Sent) (behind : List ℕ) (fed stray : ℕ) → allGood sents behind ≡ true
-    → Gives (outside fed stray) (bytesSent sents behind) (eventsSent fed sents) (outside (fed + length (bytesSent sents behind)) (stray + straySent sents behind))
-sent-gives [] behind fed stray good = strays-give fed stray behind good
-sent-gives (sent ∷ others) behind fed stray good =
+pub sent-gives : (order : Order) (sents : List Sent) (behind : List ℕ) (fed stray : ℕ) → allGood sents behind ≡ true
+    → Gives (outside order fed stray) (bytesSent order sents behind) (eventsSent order fed sents) (outside order (fed + length (bytesSent order sents behind)) (stray + straySent sents behind))
+sent-gives order [] behind fed stray good = strays-give order fed stray behind good
+sent-gives order (sent ∷ others) behind fed stray good =
     let parts = both (noStx (sent .before) && eqb (refusalOf (sent .rec)) 0) (allGood others behind) good in
     let here = both (noStx (sent .before)) (eqb (refusalOf (sent .rec)) 0) (parts .0) in
     let gap = length (sent .before) in
-    let telegram = telegramOf true (sent .rec) in
-    let rest = bytesSent others behind in
-    let on = sent-gives others behind (fed + gap + length telegram) (stray + gap) (parts .1) in
+    let telegram = telegramIn order true (sent .rec) in
+    let rest = bytesSent order others behind in
+    let on = sent-gives order others behind (fed + gap + length telegram) (stray + gap) (parts .1) in
     let f : fed + gap + length telegram + length rest ≡ fed + length (sent .before ++ (telegram ++ rest)) =
     omega (arith, length-append (sent .before) (telegram ++ rest), length-append telegram rest) in
     let s : stray + gap + straySent others behind ≡ stray + (gap + straySent others behind) = omega arith in
     let all =
-    gives-join (outside fed stray) (sent .before) (telegram ++ rest) [] _ _ _
-    (strays-give fed stray (sent .before) (here .0))
-    (gives-join (outside (fed + gap) (stray + gap)) telegram rest _ _ _ _
-    (telegram-gives (sent .rec) (eqb-true (refusalOf (sent .rec)) 0 (here .1)) (fed + gap) (stray + gap))
+    gives-join (outside order fed stray) (sent .before) (telegram ++ rest) [] _ _ _
+    (strays-give order fed stray (sent .before) (here .0))
+    (gives-join (outside order (fed + gap) (stray + gap)) telegram rest _ _ _ _
+    (telegram-gives order (sent .rec) (eqb-true (refusalOf (sent .rec)) 0 (here .1)) (fed + gap) (stray + gap))
     on) in
-    (all .0, all .1 ∙ (λ i. outside (f i) (s i)))
+    (all .0, all .1 ∙ (λ i. outside order (f i) (s i)))
 
 -- cut anywhere, fed to a fresh reader by any caller's loop
-module _ (call : Reader → List ℕ → Calls) (splitting : Splitting call) (sents : List Sent) (behind : List ℕ) (good : allGood sents behind ≡ true)
-    (served : List Served) (same : bytesServed served ≡ bytesSent sents behind) (used : AllUsedUp call freshReader served) where
-  gives : Gives freshLine (bytesSent sents behind) (eventsSent 0 sents) (outside (0 + length (bytesSent sents behind)) (0 + straySent sents behind))
-  gives = sent-gives sents behind 0 0 good
+module _ (call : Reader → List ℕ → Calls) (splitting : Splitting call) (order : Order) (sents : List Sent) (behind : List ℕ) (good : allGood sents behind ≡ true)
+    (served : List Served) (same : bytesServed served ≡ bytesSent order sents behind) (used : AllUsedUp call (freshIn order) served) where
+  gives : Gives (freshLine order) (bytesSent order sents behind) (eventsSent order 0 sents) (outside order (0 + length (bytesSent order sents behind)) (0 + straySent sents behind))
+  gives = sent-gives order sents behind 0 0 good
 
-  pub exactly-those : heardOf call freshReader served ≡ eventsSent 0 sents
-  exactly-those = cut-anywhere call splitting served freshLine freshReader good-fresh refl used .0 ∙ ap (eventsOf freshLine) same ∙ gives .0
+  pub exactly-those : heardOf call (freshIn order) served ≡ eventsSent order 0 sents
+  exactly-those = cut-anywhere call splitting served (freshLine order) (freshIn order) (good-fresh order) refl used .0 ∙ ap (eventsOf (freshLine order)) same ∙ gives .0
 
-  pub reader-then : readerBehind call freshReader served ≡ readerOf (outside (length (bytesSent sents behind)) (straySent sents behind))
+  pub reader-then : readerBehind call (freshIn order) served ≡ readerOf (outside order (length (bytesSent order sents behind)) (straySent sents behind))
   reader-then =
-      cut-anywhere call splitting served freshLine freshReader good-fresh refl used .1
-      ∙ ap (λ bytes. readerOf (lineAfter freshLine bytes)) same
+      cut-anywhere call splitting served (freshLine order) (freshIn order) (good-fresh order) refl used .1
+      ∙ ap (λ bytes. readerOf (lineAfter (freshLine order) bytes)) same
       ∙ ap readerOf (gives .1)
-      ∙ (λ i. readerOf (outside (zero-add (length (bytesSent sents behind)) i) (zero-add (straySent sents behind) i)))
+      ∙ (λ i. readerOf (outside order (zero-add (length (bytesSent order sents behind)) i) (zero-add (straySent sents behind) i)))
 
-  pub true-stray : readerBehind call freshReader served .stray ≡ straySent sents behind % 2 ^ 32
+  pub true-stray : readerBehind call (freshIn order) served .stray ≡ straySent sents behind % 2 ^ 32
   true-stray = ap (λ reader. reader .stray) reader-then
 
-  pub end-then : endReader (readerBehind call freshReader served) .heard ≡ Nothing
+  pub end-then : endReader (readerBehind call (freshIn order) served) .heard ≡ Nothing
   end-then =
-      let last = readerOf (outside (length (bytesSent sents behind)) (straySent sents behind)) in
+      let last = readerOf (outside order (length (bytesSent order sents behind)) (straySent sents behind)) in
       ap (λ reader. endReader reader .heard) reader-then
-      ∙ ap (λ ended. ended .heard) (end-outside last (reader-well [] (length (bytesSent sents behind)) (straySent sents behind) (omega arith) refl) refl)
+      ∙ ap (λ ended. ended .heard) (end-outside last (reader-well order [] (length (bytesSent order sents behind)) (straySent sents behind) (omega arith) refl) refl)
 
 -- two lists that make the same line are the same list
 recordOf : RecordAnswer → List Record
@@ -128,14 +130,14 @@ recordsIn (Nothing ∷ heard) = recordsIn heard
 recordsIn (Event answer start size ∷ heard) = recordOf answer ++ recordsIn heard
 recordsIn (Refused number ∷ heard) = recordsIn heard
 
-records-back : (from : ℕ) (sents : List Sent) → recordsIn (eventsSent from sents) ≡ map (λ sent. sent .rec) sents
+records-back : (order : Order) (from : ℕ) (sents : List Sent) → recordsIn (eventsSent order from sents) ≡ map (λ sent. sent .rec) sents
 unfolding recordsIn recordOf
-records-back from [] = refl
-records-back from (sent ∷ others) = ap (_∷_ (sent .rec)) (records-back (from + length (sent .before) + length (telegramOf true (sent .rec))) others)
+records-back order from [] = refl
+records-back order from (sent ∷ others) = ap (_∷_ (sent .rec)) (records-back order (from + length (sent .before) + length (telegramIn order true (sent .rec))) others)
 
-pub same-line-same-records : (a b : List Sent) (behind-a behind-b : List ℕ) → allGood a behind-a ≡ true → allGood b behind-b ≡ true
-    → bytesSent a behind-a ≡ bytesSent b behind-b → map (λ sent. sent .rec) a ≡ map (λ sent. sent .rec) b
-same-line-same-records a b behind-a behind-b good-a good-b same =
-    sym (records-back 0 a)
-    ∙ ap recordsIn (sym (sent-gives a behind-a 0 0 good-a .0) ∙ ap (eventsOf (outside 0 0)) same ∙ sent-gives b behind-b 0 0 good-b .0)
-    ∙ records-back 0 b
+pub same-line-same-records : (order : Order) (a b : List Sent) (behind-a behind-b : List ℕ) → allGood a behind-a ≡ true → allGood b behind-b ≡ true
+    → bytesSent order a behind-a ≡ bytesSent order b behind-b → map (λ sent. sent .rec) a ≡ map (λ sent. sent .rec) b
+same-line-same-records order a b behind-a behind-b good-a good-b same =
+    sym (records-back order 0 a)
+    ∙ ap recordsIn (sym (sent-gives order a behind-a 0 0 good-a .0) ∙ ap (eventsOf (outside order 0 0)) same ∙ sent-gives order b behind-b 0 0 good-b .0)
+    ∙ records-back order 0 b

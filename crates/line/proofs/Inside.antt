@@ -15,6 +15,7 @@ use Rattle.record.specs.declared.RecordAnswer.{RecordAnswer}
 use Rattle.record.specs.declared.RecordAnswer.the-variants as answer
 use Rattle.record.specs.Answers.{recordAnswer}
 use Rattle.ascii.specs.Control.{stx, etx}
+use Rattle.trailer.specs.declared.Order.{Order}
 use Rattle.line.specs.declared.Reader.{Reader}
 use Rattle.line.specs.declared.Heard.the-variants.{Nothing, Event}
 use Rattle.line.specs.Line.{places, longest, judgement, Line, lineWith, readerWith, isPlain, event, Feeding, feedOf, startOf, readerOf, lineOf, wellFormed, answerFor, fedFor, feedReader}
@@ -27,31 +28,31 @@ use Rattle.line.proofs.FeedLaws.{later, feed-run}
 -- a feeding that ended with the byte it was given
 abbrev pub stopped : Line → List ℕ → Outcome Record → ℕ → Feeding
 stopped line next outcome size =
-    record { line = lineWith next (line .fed + 1) (line .stray); taken = 1; told = event outcome size; at = startOf line }
+    record { line = lineWith next (line .fed + 1) (line .stray) (line .order); taken = 1; told = event outcome size; at = startOf line }
 
-module _ (fed stray : ℕ) (rest : List ℕ) where
+module _ (order : Order) (fed stray : ℕ) (rest : List ℕ) where
   pub at-etx : (held : List ℕ) → 0 < length held
-      → feedOf (lineWith held fed stray) (etx ∷ rest) ≡ stopped (lineWith held fed stray) [] (judgement held) (length held + 1)
+      → feedOf (lineWith held fed stray order) (etx ∷ rest) ≡ stopped (lineWith held fed stray order) [] (judgement order held) (length held + 1)
   at-etx [] some = absurd (omega arith)
   at-etx (first ∷ held) some = rw (add-zero stray)
 
   pub at-stx : (held : List ℕ) → 0 < length held
-      → feedOf (lineWith held fed stray) (stx ∷ rest) ≡ stopped (lineWith held fed stray) (stx ∷ []) (refused 9) (length held)
+      → feedOf (lineWith held fed stray order) (stx ∷ rest) ≡ stopped (lineWith held fed stray order) (stx ∷ []) (refused 9) (length held)
   at-stx [] some = absurd (omega arith)
   at-stx (first ∷ held) some = rw (add-zero stray)
 
   pub at-full : (byte : ℕ) (held : List ℕ) → 0 < length held → (byte ≡ etx → ⊥) → (byte ≡ stx → ⊥) → places ≤ length held
-      → feedOf (lineWith held fed stray) (byte ∷ rest) ≡ stopped (lineWith held fed stray) [] (refused 10) longest
+      → feedOf (lineWith held fed stray order) (byte ∷ rest) ≡ stopped (lineWith held fed stray order) [] (refused 10) longest
   at-full byte [] some no-etx no-stx full = absurd (omega arith)
   at-full byte (first ∷ held) some no-etx no-stx full =
       simp (ne-eqb byte etx no-etx, ne-eqb byte stx no-stx, le-leb places (length (first ∷ held)) full, add-zero)
 
 -- a reader knows its counts only with the wrap
-pub reader-wraps : (held : List ℕ) (fed fed' stray stray' : ℕ) → length held ≤ places → fed % 2 ^ 32 ≡ fed' % 2 ^ 32 → stray % 2 ^ 32 ≡ stray' % 2 ^ 32
-    → readerOf (lineWith held fed stray) ≡ readerOf (lineWith held fed' stray')
-reader-wraps held fed fed' stray stray' fits f s =
+pub reader-wraps : (order : Order) (held : List ℕ) (fed fed' stray stray' : ℕ) → length held ≤ places → fed % 2 ^ 32 ≡ fed' % 2 ^ 32 → stray % 2 ^ 32 ≡ stray' % 2 ^ 32
+    → readerOf (lineWith held fed stray order) ≡ readerOf (lineWith held fed' stray' order)
+reader-wraps order held fed fed' stray stray' fits f s =
     let start : (fed + (2 ^ 32 - length held)) % 2 ^ 32 ≡ (fed' + (2 ^ 32 - length held)) % 2 ^ 32 = omega (arith, f) in
-    λ i. readerWith (held ++ replicate (places - length held) 0) (length held) (f i) (s i) (start i)
+    λ i. readerWith (held ++ replicate (places - length held) 0) (length held) (f i) (s i) (start i) order
 
 -- all that one call finds inside a telegram
 module _ (reader : Reader) (piece : List ℕ) (size : length (reader .held) ≡ places) (good : wellFormed reader ≡ true) (some : 0 < reader .len) where
@@ -62,7 +63,7 @@ module _ (reader : Reader) (piece : List ℕ) (size : length (reader .held) ≡ 
   gathered = take (reader .len) (reader .held) ++ take added piece
 
   abbrev pub grown : Line
-  grown = lineWith gathered (reader .fed + added) (reader .stray)
+  grown = lineWith gathered (reader .fed + added) (reader .stray) (reader .order)
 
   kept : Well reader
   kept = well reader good
@@ -78,7 +79,7 @@ module _ (reader : Reader) (piece : List ℕ) (size : length (reader .held) ≡ 
 
   pub run : feedOf (lineOf reader) piece ≡ later added (feedOf grown (drop added piece))
   run =
-      feed-run (take (reader .len) (reader .held)) (reader .fed) (reader .stray) piece added (omega (arith, held-size)) (omega (arith, held-size, kept .fits))
+      feed-run (reader .order) (take (reader .len) (reader .held)) (reader .fed) (reader .stray) piece added (omega (arith, held-size)) (omega (arith, held-size, kept .fits))
       (ap (λ len. roomyRun len piece) held-size)
 
   pub starts : startOf grown ≡ reader .start
@@ -97,7 +98,7 @@ module _ (reader : Reader) (piece : List ℕ) (size : length (reader .held) ≡ 
       → feedReader reader piece
       ≡ record {
         reader =
-            readerWith (paste (reader .held) (reader .len) piece added) (reader .len + added) ((reader .fed + added) % 2 ^ 32) (reader .stray) (reader .start);
+            readerWith (paste (reader .held) (reader .len) piece added) (reader .len + added) ((reader .fed + added) % 2 ^ 32) (reader .stray) (reader .start) (reader .order);
         taken = added;
         heard = Nothing;
       }
@@ -110,7 +111,7 @@ module _ (reader : Reader) (piece : List ℕ) (size : length (reader .held) ≡ 
       fed-by-run
       ∙ (λ i. fedFor (later added (feedOf grown (over i))))
       ∙ (λ i. record {
-        reader = readerWith (padded i) (gathered-size i) ((reader .fed + added) % 2 ^ 32) (stray i) (starts i);
+        reader = readerWith (padded i) (gathered-size i) ((reader .fed + added) % 2 ^ 32) (stray i) (starts i) (reader .order);
         taken = zero-add added i;
         heard = Nothing;
       })
@@ -119,10 +120,10 @@ module _ (reader : Reader) (piece : List ℕ) (size : length (reader .held) ≡ 
   pub inside-stops : (next : List ℕ) (outcome : Outcome Record) (count : ℕ) → length next ≤ places
       → feedOf grown (drop added piece) ≡ stopped grown next outcome count
       → feedReader reader piece
-      ≡ record { reader = readerOf (lineWith next ((reader .fed + (added + 1)) % 2 ^ 32) (reader .stray)); taken = added + 1; heard = Event (answerFor outcome) (reader .start) count }
+      ≡ record { reader = readerOf (lineWith next ((reader .fed + (added + 1)) % 2 ^ 32) (reader .stray) (reader .order)); taken = added + 1; heard = Event (answerFor outcome) (reader .start) count }
   inside-stops next outcome count fits e =
       let same : (reader .fed + added + 1) % 2 ^ 32 ≡ (reader .fed + (added + 1)) % 2 ^ 32 % 2 ^ 32 = omega arith in
-      let reads = reader-wraps next (reader .fed + added + 1) ((reader .fed + (added + 1)) % 2 ^ 32) (reader .stray) (reader .stray) fits same refl in
+      let reads = reader-wraps (reader .order) next (reader .fed + added + 1) ((reader .fed + (added + 1)) % 2 ^ 32) (reader .stray) (reader .stray) fits same refl in
       let one : 1 + added ≡ added + 1 = omega arith in
       fed-by-run
       ∙ ap (λ feeding. fedFor (later added feeding)) e
@@ -131,12 +132,12 @@ module _ (reader : Reader) (piece : List ℕ) (size : length (reader .held) ≡ 
   pub stops-with : (next : List ℕ) (outcome : Outcome Record) (count : ℕ) → length next ≤ places
       → feedOf grown (drop added piece) ≡ stopped grown next outcome count
       → (after : Reader) (fed n size : ℕ) (answer : RecordAnswer)
-      → after ≡ readerOf (lineWith next fed (reader .stray)) → fed ≡ (reader .fed + (n + 1)) % 2 ^ 32 → n ≡ added → answer ≡ answerFor outcome → size ≡ count
+      → after ≡ readerOf (lineWith next fed (reader .stray) (reader .order)) → fed ≡ (reader .fed + (n + 1)) % 2 ^ 32 → n ≡ added → answer ≡ answerFor outcome → size ≡ count
       → record { reader = after; taken = n + 1; heard = Event answer (reader .start) size } ≡ feedReader reader piece
   stops-with next outcome count fits e after fed n size answer is-after is-fed is-n is-answer is-size =
       let reads =
       is-after
-      ∙ ap (λ f. readerOf (lineWith next f (reader .stray))) (is-fed ∙ ap (λ k. (reader .fed + (k + 1)) % 2 ^ 32) is-n) in
+      ∙ ap (λ f. readerOf (lineWith next f (reader .stray) (reader .order))) (is-fed ∙ ap (λ k. (reader .fed + (k + 1)) % 2 ^ 32) is-n) in
       (λ i. record { reader = reads i; taken = is-n i + 1; heard = Event (is-answer i) (reader .start) (is-size i) })
       ∙ sym (inside-stops next outcome count fits e)
 
@@ -151,17 +152,17 @@ module _ (reader : Reader) (piece : List ℕ) (size : length (reader .held) ≡ 
 
   pub told-etx : added < length piece → getD piece added 0 ≡ etx
       → feedOf grown (drop added piece)
-      ≡ stopped grown [] (judgement gathered) (length gathered + 1)
+      ≡ stopped grown [] (judgement (reader .order) gathered) (length gathered + 1)
   told-etx more e =
       ap (feedOf grown) (behind etx more e)
-      ∙ at-etx (reader .fed + added) (reader .stray) (drop (suc added) piece) gathered gathered-some
+      ∙ at-etx (reader .order) (reader .fed + added) (reader .stray) (drop (suc added) piece) gathered gathered-some
 
   pub told-stx : added < length piece → getD piece added 0 ≡ stx
       → feedOf grown (drop added piece)
       ≡ stopped grown (stx ∷ []) (refused 9) (length gathered)
   told-stx more e =
       ap (feedOf grown) (behind stx more e)
-      ∙ at-stx (reader .fed + added) (reader .stray) (drop (suc added) piece) gathered gathered-some
+      ∙ at-stx (reader .order) (reader .fed + added) (reader .stray) (drop (suc added) piece) gathered gathered-some
 
   -- a plain byte behind the run: there is no room for it
   plain : (byte : ℕ) → (byte ≡ etx → ⊥) → (byte ≡ stx → ⊥) → isPlain byte ≡ true
@@ -179,7 +180,7 @@ module _ (reader : Reader) (piece : List ℕ) (size : length (reader .held) ≡ 
       ≡ stopped grown [] (refused 10) longest
   told-full more no-etx no-stx =
       ap (feedOf grown) (behind (getD piece added 0) more refl)
-      ∙ at-full (reader .fed + added) (reader .stray) (drop (suc added) piece) (getD piece added 0) gathered gathered-some no-etx no-stx
+      ∙ at-full (reader .order) (reader .fed + added) (reader .stray) (drop (suc added) piece) (getD piece added 0) gathered gathered-some no-etx no-stx
       (filled more (plain (getD piece added 0) no-etx no-stx))
 
   -- what is judged

@@ -16,3 +16,4 @@ pub mod HandsBack
 pub mod PositionLaws
 pub mod SentencesHold
 pub mod SkippingHolds
+pub mod OrderHolds

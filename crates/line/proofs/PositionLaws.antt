@@ -50,12 +50,12 @@ last-after fed (byte ∷ bytes) line last =
     record { front = on .front; is = sym (append-assoc fed (byte ∷ []) bytes) ∙ on .is }
 
 pub the-start-is-where-the-held-begin : TheStartIsWhereTheHeldBegin
-the-start-is-where-the-held-begin bytes =
-    let line = lineAfter freshLine bytes in
-    let last = last-after [] bytes freshLine (record { front = []; is = refl }) in
+the-start-is-where-the-held-begin order bytes =
+    let line = lineAfter (freshLine order) bytes in
+    let last = last-after [] bytes (freshLine order) (record { front = []; is = refl }) in
     let whole = ap length (last .is) ∙ length-append (last .front) (line .held) in
     let begin : length bytes - length (line .held) ≡ length (last .front) = omega (arith, whole) in
-    let fits = good-after freshLine bytes good-fresh .fits in (
+    let fits = good-after (freshLine order) bytes (good-fresh order) .fits in (
       (λ i. drop (begin i) (last .is i)) ∙ drop-append-seam (last .front) (line .held),
-      omega (arith, whole, fits, fed-counts freshLine bytes),
+      omega (arith, whole, fits, fed-counts (freshLine order) bytes),
     )

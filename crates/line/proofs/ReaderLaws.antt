@@ -46,12 +46,12 @@ module _ (reader : Reader) where
   end-refused e = rw e
 
   pub end-outside : wellFormed reader ≡ true → reader .len ≡ 0
-      → endReader reader ≡ record { reader = readerOf (lineWith [] (reader .fed) (reader .stray)); heard = Nothing }
+      → endReader reader ≡ record { reader = readerOf (lineWith [] (reader .fed) (reader .stray) (reader .order)); heard = Nothing }
   unfolding endReader
   end-outside e none = rw (e, none)
 
   pub end-inside : wellFormed reader ≡ true → length (reader .held) ≡ places → 0 < reader .len
-      → endReader reader ≡ record { reader = readerOf (lineWith [] (reader .fed) (reader .stray)); heard = Event (answer.Refused 11) (reader .start) (reader .len) }
+      → endReader reader ≡ record { reader = readerOf (lineWith [] (reader .fed) (reader .stray) (reader .order)); heard = Event (answer.Refused 11) (reader .start) (reader .len) }
   unfolding endReader
   end-inside e size some =
       let len = taken-length (reader .held) (reader .len) size in
@@ -84,7 +84,7 @@ module _ (reader : Reader) (good : wellFormed reader ≡ true) (size : length (r
       ∙ take-append-drop (reader .len) (reader .held) in
       let fed : reader .fed % 2 ^ 32 ≡ reader .fed = omega arith in
       let stray : reader .stray % 2 ^ 32 ≡ reader .stray = omega arith in
-      λ i. readerWith (held i) (held-size i) (fed i) (stray i) (sym (kept .start) i)
+      λ i. readerWith (held i) (held-size i) (fed i) (stray i) (sym (kept .start) i) (reader .order)
 
-  pub outside-back : reader .len ≡ 0 → readerOf (lineWith [] (reader .fed) (reader .stray)) ≡ reader
-  outside-back none = (λ i. readerOf (lineWith (take (sym none i) (reader .held)) (reader .fed) (reader .stray))) ∙ reader-back
+  pub outside-back : reader .len ≡ 0 → readerOf (lineWith [] (reader .fed) (reader .stray) (reader .order)) ≡ reader
+  outside-back none = (λ i. readerOf (lineWith (take (sym none i) (reader .held)) (reader .fed) (reader .stray) (reader .order))) ∙ reader-back

@@ -1,8 +1,8 @@
 -- Laws of what is sent: the body of a telegram is plain, and a telegram on the line is one event. Assumes nothing.
-use mathlib.Core.Path.{_≡_, refl, sym, _∙_}
-use mathlib.Core.Bool.{Bool, true, false, cond, not}
+use mathlib.Core.Path.{_≡_, refl, ap, sym, _∙_}
+use mathlib.Core.Bool.{Bool, true, false, cond, not, _&&_}
 use mathlib.Core.List.{List, [], _∷_, _++_, map, append-nil, append-assoc}
-use Prim.Native.Nat.{ℕ, suc, _+_, _%_, _≤_, _<_}
+use Prim.Native.Nat.{ℕ, zero, suc, _+_, _-_, _%_, _≤_, _<_}
 use native.Mathlib.Nat.{add-zero}
 use native.Mathlib.Omega.{arith}
 use lib.Dec.{eqb, ltb}
@@ -16,6 +16,10 @@ use Rattle.record.specs.declared.Record.{Record}
 use Rattle.layouts.specs.Layouts.{placesOf, ownLayout}
 use Rattle.layouts.specs.Coding.{digitsOut}
 use Rattle.layouts.proofs.RowLaws.{row-sound, row-length}
+use Rattle.trailer.specs.declared.Order.{Order}
+use Rattle.trailer.specs.declared.Order.the-variants.{AsPrinted, Exchanged}
+use Rattle.trailer.specs.Trailer.{exchangeAt, inOrder}
+use Rattle.trailer.proofs.TrailerLaws.{length-in-order}
 use Rattle.telegram.specs.Writing.{bodyBytes}
 use Rattle.ascii.specs.Control.{stx, etx}
 use Rattle.line.specs.declared.Heard.{Heard}
@@ -47,35 +51,58 @@ plain-row (p ∷ row) digits s =
     let parts = both (soundPlace p) (sound row) s in
     rw (plain-at digits p (parts .0), plain-row row digits (parts .1))
 
-pub plain-body : (rec : Record) → allPlain (bodyBytes rec) ≡ true
+plain-printed : (rec : Record) → allPlain (bodyBytes rec) ≡ true
 unfolding bodyBytes render
-plain-body rec = plain-row (placesOf (ownLayout rec)) (digitsOut rec) (row-sound (ownLayout rec))
+plain-printed rec = plain-row (placesOf (ownLayout rec)) (digitsOut rec) (row-sound (ownLayout rec))
 
-pub body-fits : (rec : Record) → length (bodyBytes rec) < places
+-- in either order
+swapped : (a b c : Bool) → (a && (b && c)) ≡ (b && (a && c))
+swapped true b c = refl
+swapped false true c = refl
+swapped false false c = refl
+
+plain-exchanged : (at : ℕ) (bytes : List ℕ) → allPlain (exchangeAt at bytes) ≡ allPlain bytes
+plain-exchanged zero [] = refl
+plain-exchanged zero (first ∷ []) = refl
+plain-exchanged zero (first ∷ second ∷ more) = swapped (isPlain second) (isPlain first) (allPlain more)
+plain-exchanged (suc at) [] = refl
+plain-exchanged (suc at) (first ∷ more) = ap (_&&_ (isPlain first)) (plain-exchanged at more)
+
+pub plain-body : (order : Order) (rec : Record) → allPlain (inOrder order (bodyBytes rec)) ≡ true
+plain-body AsPrinted rec = plain-printed rec
+plain-body Exchanged rec = plain-exchanged (length (bodyBytes rec) - 2) (bodyBytes rec) ∙ plain-printed rec
+
+pub body-fits : (order : Order) (rec : Record) → length (inOrder order (bodyBytes rec)) < places
 unfolding bodyBytes
-body-fits rec = omega (arith, length-render (placesOf (ownLayout rec)) (digitsOut rec), row-length (ownLayout rec) .1)
+body-fits order rec =
+    omega (
+      arith,
+      length-in-order order (bodyBytes rec),
+      length-render (placesOf (ownLayout rec)) (digitsOut rec),
+      row-length (ownLayout rec) .1,
+    )
 
 -- strays
 abbrev pub Gives : Line → List ℕ → List Heard → Line → Type 0
 Gives line bytes events after = (eventsOf line bytes ≡ events) × (lineAfter line bytes ≡ after)
 
-pub strays-give : (fed stray : ℕ) (bytes : List ℕ) → noStx bytes ≡ true → Gives (outside fed stray) bytes [] (outside (fed + length bytes) (stray + length bytes))
-strays-give fed stray [] none = (refl, λ i. outside (sym (add-zero fed) i) (sym (add-zero stray) i))
-strays-give fed stray (byte ∷ bytes) none =
+pub strays-give : (order : Order) (fed stray : ℕ) (bytes : List ℕ) → noStx bytes ≡ true → Gives (outside order fed stray) bytes [] (outside order (fed + length bytes) (stray + length bytes))
+strays-give order fed stray [] none = (refl, λ i. outside order (sym (add-zero fed) i) (sym (add-zero stray) i))
+strays-give order fed stray (byte ∷ bytes) none =
     let parts = both (not (eqb byte stx)) (noStx bytes) none in
-    let on = strays-give (fed + 1) (stray + 1) bytes (parts .1) in
+    let on = strays-give order (fed + 1) (stray + 1) bytes (parts .1) in
     let f : fed + 1 + length bytes ≡ fed + suc (length bytes) = omega arith in
     let s : stray + 1 + length bytes ≡ stray + suc (length bytes) = omega arith in
-    rw (not-true (eqb byte stx) (parts .0)) (on .0, on .1 ∙ (λ i. outside (f i) (s i)))
+    rw (not-true (eqb byte stx) (parts .0)) (on .0, on .1 ∙ (λ i. outside order (f i) (s i)))
 
 -- plain bytes inside
-pub plain-gives : (first : ℕ) (held : List ℕ) (fed stray : ℕ) (bytes : List ℕ) → allPlain bytes ≡ true → length (first ∷ held) + length bytes ≤ places
-    → Gives (lineWith (first ∷ held) fed stray) bytes [] (lineWith ((first ∷ held) ++ bytes) (fed + length bytes) stray)
-plain-gives first held fed stray [] plain room = (refl, λ i. lineWith (sym (append-nil (first ∷ held)) i) (sym (add-zero fed) i) stray)
-plain-gives first held fed stray (byte ∷ bytes) plain room =
+pub plain-gives : (order : Order) (first : ℕ) (held : List ℕ) (fed stray : ℕ) (bytes : List ℕ) → allPlain bytes ≡ true → length (first ∷ held) + length bytes ≤ places
+    → Gives (lineWith (first ∷ held) fed stray order) bytes [] (lineWith ((first ∷ held) ++ bytes) (fed + length bytes) stray order)
+plain-gives order first held fed stray [] plain room = (refl, λ i. lineWith (sym (append-nil (first ∷ held)) i) (sym (add-zero fed) i) stray order)
+plain-gives order first held fed stray (byte ∷ bytes) plain room =
     let parts = both (isPlain byte) (allPlain bytes) plain in
     let apart = both (not (eqb byte stx)) (not (eqb byte etx)) (parts .0) in
-    let on = plain-gives first (held ++ byte ∷ []) (fed + 1) stray bytes (parts .1) (omega (arith, length-append held (byte ∷ []))) in
+    let on = plain-gives order first (held ++ byte ∷ []) (fed + 1) stray bytes (parts .1) (omega (arith, length-append held (byte ∷ []))) in
     let f : fed + 1 + length bytes ≡ fed + suc (length bytes) = omega arith in
     rw (not-true (eqb byte stx) (apart .0), not-true (eqb byte etx) (apart .1), lt-leb places (length (first ∷ held)) (omega arith), add-zero stray)
-    (on .0, on .1 ∙ (λ i. lineWith (first ∷ append-assoc held (byte ∷ []) bytes i) (f i) stray))
+    (on .0, on .1 ∙ (λ i. lineWith (first ∷ append-assoc held (byte ∷ []) bytes i) (f i) stray order))

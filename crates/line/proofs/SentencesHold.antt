@@ -17,7 +17,7 @@ use Rattle.line.proofs.CutLaws.{good-fresh}
 use Rattle.line.proofs.UsesUp.{taken-line, passing-splits}
 
 pub a-fresh-one-holds-none : AFreshOneHoldsNone
-a-fresh-one-holds-none = (reader-of-good freshLine good-fresh, refl, refl, refl, refl)
+a-fresh-one-holds-none order = (reader-of-good (freshLine order) (good-fresh order), refl, refl, refl, refl, refl)
 
 pub a-good-state-stays-good : AGoodStateStaysGood
 a-good-state-stays-good reader piece declared well =
@@ -37,7 +37,7 @@ one-by (event outcome size) start later n h = omega (arith, h)
 pub one-byte-gives-at-most-one-event : OneByteGivesAtMostOneEvent
 one-byte-gives-at-most-one-event line [] = omega arith
 one-byte-gives-at-most-one-event line (byte ∷ bytes) =
-    one-by (toldBy (line .held) byte) (startOf line) (eventsOf (step line byte) bytes) (length bytes) (one-byte-gives-at-most-one-event (step line byte) bytes)
+    one-by (toldBy (line .order) (line .held) byte) (startOf line) (eventsOf (step line byte) bytes) (length bytes) (one-byte-gives-at-most-one-event (step line byte) bytes)
 
 -- a call stops after the first event
 abbrev Stops : Line → List ℕ → Feeding → Type 0
@@ -46,7 +46,7 @@ Stops line piece feeding =
     × (eventsOf line (take (feeding .taken - 1) piece) ≡ [])
     × (heardFor (feeding .told) (feeding .at) ≡ Nothing → feeding .taken ≡ length piece)
 
-stops-by : (line : Line) (byte : ℕ) (piece : List ℕ) (told : Told) (on : Feeding) → toldBy (line .held) byte ≡ told → Stops (step line byte) piece on
+stops-by : (line : Line) (byte : ℕ) (piece : List ℕ) (told : Told) (on : Feeding) → toldBy (line .order) (line .held) byte ≡ told → Stops (step line byte) piece on
     → Stops line (byte ∷ piece) (stopOr told (startOf line) (step line byte) on)
 stops-by line byte piece nothing on e (heard, before, all) = (rw (add-one (on .taken), e) heard, go (on .taken) (on .taken + 1 - 1) (omega arith) before, λ silent. omega (arith, all silent))
   where
@@ -59,7 +59,7 @@ stops-by line byte piece (event outcome size) on e h = (rw e, refl, λ silent. l
 
 feed-stops : (line : Line) (piece : List ℕ) → Stops line piece (feedOf line piece)
 feed-stops line [] = (refl, refl, λ silent. refl)
-feed-stops line (byte ∷ piece) = stops-by line byte piece (toldBy (line .held) byte) (feedOf (step line byte) piece) refl (feed-stops (step line byte) piece)
+feed-stops line (byte ∷ piece) = stops-by line byte piece (toldBy (line .order) (line .held) byte) (feedOf (step line byte) piece) refl (feed-stops (step line byte) piece)
 
 pub a-call-stops-after-the-first-event : ACallStopsAfterTheFirstEvent
 unfolding feedReader

@@ -8,6 +8,7 @@ use lib.Dec.{eqb}
 use lib.ListN.{length, take, drop}
 use lib.Seq.{drop-append-add}
 use Rattle.ascii.specs.Control.{stx}
+use Rattle.trailer.specs.declared.Order.{Order}
 use Rattle.line.specs.Line.{feedOf, fedFor}
 use Rattle.line.specs.Runs.{hasStx, strayRun}
 use Rattle.line.specs.Skipping.{TheRunEndsAtTheNextStx, behind, StrayBytesMayBeSkipped}
@@ -28,26 +29,26 @@ pub the-run-ends-at-the-next-stx : TheRunEndsAtTheNextStx
 the-run-ends-at-the-next-stx piece = (none-before piece, stray-ends piece .0, stray-ends piece .1)
 
 -- the run of the whole is what was skipped and the run of what is left
-module _ (fed stray : ℕ) (run rest : List ℕ) (none : hasStx run ≡ false) where
+module _ (order : Order) (fed stray : ℕ) (run rest : List ℕ) (none : hasStx run ≡ false) where
   abbrev n : ℕ
   n = length run
 
   abbrev m : ℕ
   m = strayRun rest
 
-  past : feedOf (outside fed stray) (run ++ rest) ≡ later n (feedOf (outside (fed + n) (stray + n)) rest)
+  past : feedOf (outside order fed stray) (run ++ rest) ≡ later n (feedOf (outside order (fed + n) (stray + n)) rest)
   past =
       let sum = stray-past run rest none in
       let f : fed + (n + m) ≡ fed + n + m = omega arith in
       let s : stray + (n + m) ≡ stray + n + m = omega arith in
-      feed-stray fed stray (run ++ rest)
-      ∙ (λ i. later (sum i) (feedOf (outside (fed + sum i) (stray + sum i)) (drop (sum i) (run ++ rest))))
-      ∙ (λ i. later (n + m) (feedOf (outside (f i) (s i)) (drop-append-add run rest m i)))
-      ∙ sym (later-later n m (n + m) (feedOf (outside (fed + n + m) (stray + n + m)) (drop m rest)) (omega arith))
-      ∙ ap (later n) (sym (feed-stray (fed + n) (stray + n) rest))
+      feed-stray order fed stray (run ++ rest)
+      ∙ (λ i. later (sum i) (feedOf (outside order (fed + sum i) (stray + sum i)) (drop (sum i) (run ++ rest))))
+      ∙ (λ i. later (n + m) (feedOf (outside order (f i) (s i)) (drop-append-add run rest m i)))
+      ∙ sym (later-later n m (n + m) (feedOf (outside order (fed + n + m) (stray + n + m)) (drop m rest)) (omega arith))
+      ∙ ap (later n) (sym (feed-stray order (fed + n) (stray + n) rest))
 
 pub stray-bytes-may-be-skipped : StrayBytesMayBeSkipped
-stray-bytes-may-be-skipped fed stray run rest none =
-    feed-reader [] fed stray (omega arith) refl (run ++ rest)
-    ∙ ap fedFor (past fed stray run rest none)
-    ∙ ap (behind (length run)) (sym (feed-reader [] (fed + length run) (stray + length run) (omega arith) refl rest))
+stray-bytes-may-be-skipped fed stray order run rest none =
+    feed-reader order [] fed stray (omega arith) refl (run ++ rest)
+    ∙ ap fedFor (past order fed stray run rest none)
+    ∙ ap (behind (length run)) (sym (feed-reader order [] (fed + length run) (stray + length run) (omega arith) refl rest))

@@ -54,22 +54,22 @@ good-by (event outcome size) start next on n o = n
 pub good-feed : (line : Line) (piece : List ℕ) → Good line → Good (feedOf line piece .line)
 good-feed line [] good = good
 good-feed line (byte ∷ piece) good =
-    good-by (toldBy (line .held) byte) _ _ _ (good-step line byte good) (good-feed (step line byte) piece (good-step line byte good))
+    good-by (toldBy (line .order) (line .held) byte) _ _ _ (good-step line byte good) (good-feed (step line byte) piece (good-step line byte good))
 
 pub reader-of-good : (line : Line) → Good line → wellFormed (readerOf line) ≡ true
-reader-of-good line good = reader-well (line .held) (line .fed) (line .stray) (good .fits) (good .started)
+reader-of-good line good = reader-well (line .order) (line .held) (line .fed) (line .stray) (good .fits) (good .started)
 
 -- what a reader of such a line answers
 pub feed-good : (line : Line) → Good line → (piece : List ℕ) → feedReader (readerOf line) piece ≡ fedFor (feedOf line piece)
-feed-good line good piece = feed-reader (line .held) (line .fed) (line .stray) (good .fits) (good .started) piece
+feed-good line good piece = feed-reader (line .order) (line .held) (line .fed) (line .stray) (good .fits) (good .started) piece
 
 pub end-good : (line : Line) → Good line → endReader (readerOf line) ≡ record { reader = readerOf (ended line); heard = heardFor (toldByEnd (line .held)) (startOf line) }
 unfolding endReader
 end-good line good =
     rw (reader-of-good line good)
     (λ i. record {
-      reader = reader-wraps [] (line .fed % 2 ^ 32) (line .fed) (line .stray % 2 ^ 32) (line .stray) (omega arith) (omega arith) (omega arith) i;
-      heard = heardFor (toldByEnd (held-back (line .held) (line .fed) (line .stray) (good .fits) (good .started) i)) (startOf line);
+      reader = reader-wraps (line .order) [] (line .fed % 2 ^ 32) (line .fed) (line .stray % 2 ^ 32) (line .stray) (omega arith) (omega arith) (omega arith) i;
+      heard = heardFor (toldByEnd (held-back (line .order) (line .held) (line .fed) (line .stray) (good .fits) (good .started) i)) (startOf line);
     })
 
 module _ (reader : Reader) (size : length (reader .held) ≡ places) (e : wellFormed reader ≡ true) where
@@ -83,4 +83,4 @@ module _ (reader : Reader) (size : length (reader .held) ≡ places) (e : wellFo
 
   pub end-stays-good : wellFormed (endReader reader .reader) ≡ true
   unfolding endReader
-  end-stays-good = rw e (reader-well [] (reader .fed) (reader .stray) (omega arith) refl)
+  end-stays-good = rw e (reader-well (reader .order) [] (reader .fed) (reader .stray) (omega arith) refl)

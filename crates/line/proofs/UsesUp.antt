@@ -26,7 +26,7 @@ line-by (event outcome size) start byte next on piece h = refl
 pub taken-line : (line : Line) (piece : List ℕ) → feedOf line piece .line ≡ lineAfter line (take (feedOf line piece .taken) piece)
 taken-line line [] = refl
 taken-line line (byte ∷ piece) =
-    let told = toldBy (line .held) byte in
+    let told = toldBy (line .order) (line .held) byte in
     let next = step line byte in
     let feeding = stopOr told (startOf line) next (feedOf next piece) in
     let one : suc (feeding .taken - 1) ≡ feeding .taken = omega (arith, some-by told (startOf line) next (feedOf next piece)) in
@@ -71,7 +71,7 @@ takes-some more line good (byte ∷ piece) some =
       arith,
       takes-by (fed .heard) fed (passing more (fed .reader) (drop (fed .taken) (byte ∷ piece))),
       same,
-      some-by (toldBy (line .held) byte) (startOf line) (step line byte) (feedOf (step line byte) piece),
+      some-by (toldBy (line .order) (line .held) byte) (startOf line) (step line byte) (feedOf (step line byte) piece),
     )
 
 -- what it hands on splits what the piece tells

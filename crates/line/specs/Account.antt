@@ -13,7 +13,7 @@ eventSize (event outcome size) = size
 -- the lengths of all events, and the number of stray bytes
 abbrev pub lengthsOf : Line → List ℕ → ℕ
 lengthsOf line [] = 0
-lengthsOf line (byte ∷ bytes) = eventSize (toldBy (line .held) byte) + lengthsOf (step line byte) bytes
+lengthsOf line (byte ∷ bytes) = eventSize (toldBy (line .order) (line .held) byte) + lengthsOf (step line byte) bytes
 
 abbrev pub straysOf : Line → List ℕ → ℕ
 straysOf line [] = 0

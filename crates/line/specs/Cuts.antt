@@ -17,7 +17,7 @@ tells (event outcome size) start later = Event (answerFor outcome) start size �
 
 abbrev pub eventsOf : Line → List ℕ → List Heard
 eventsOf line [] = []
-eventsOf line (byte ∷ bytes) = tells (toldBy (line .held) byte) (startOf line) (eventsOf (step line byte) bytes)
+eventsOf line (byte ∷ bytes) = tells (toldBy (line .order) (line .held) byte) (startOf line) (eventsOf (step line byte) bytes)
 
 abbrev pub lineAfter : Line → List ℕ → Line
 lineAfter line [] = line

@@ -1,4 +1,4 @@
--- Document 01, "The line, byte by byte".
+-- Document 01, "The line, byte by byte", and document 02, f: "the trailer order .. becomes a setting of the line".
 use mathlib.Core.Bool.{Bool, true, cond, not, _&&_}
 use mathlib.Core.List.{List, [], _∷_, _++_}
 use mathlib.Core.Path.{_≡_}
@@ -9,7 +9,9 @@ use Rattle.refusals.specs.Refusals.{Outcome, done, refused}
 use Rattle.record.specs.declared.Record.{Record}
 use Rattle.record.specs.declared.RecordAnswer.{RecordAnswer}
 use Rattle.record.specs.declared.RecordAnswer.the-variants as answer
-use Rattle.telegram.specs.Reading.{readOf}
+use Rattle.trailer.specs.declared.Order.{Order}
+use Rattle.trailer.specs.declared.Order.the-variants.{AsPrinted}
+use Rattle.telegram.specs.Reading.{readIn}
 use Rattle.ascii.specs.Control.{stx, etx}
 use Rattle.line.specs.declared.Reader.{Reader}
 use Rattle.line.specs.declared.Heard.{Heard}
@@ -24,27 +26,29 @@ places = 24
 abbrev pub longest : ℕ
 longest = places + 1
 
--- what a reader's state means: the bytes held, and two counts that know no end. Lines and readers are made by `lineWith` and
--- `readerWith` alone
+-- what a reader's state means: the bytes held, two counts that know no end, and the order of the trailers on it. Lines and readers are
+-- made by `lineWith` and `readerWith` alone
 pub record Line : Type 0 where
   pub held : List ℕ
   pub fed : ℕ
   pub stray : ℕ
+  pub order : Order
 
-abbrev pub lineWith : List ℕ → ℕ → ℕ → Line
-lineWith held fed stray = record { held = held; fed = fed; stray = stray }
+abbrev pub lineWith : List ℕ → ℕ → ℕ → Order → Line
+lineWith held fed stray order = record { held = held; fed = fed; stray = stray; order = order }
 
-abbrev pub readerWith : List ℕ → ℕ → ℕ → ℕ → ℕ → Reader
-readerWith held len fed stray start = record { held = held; len = len; fed = fed; stray = stray; start = start }
+abbrev pub readerWith : List ℕ → ℕ → ℕ → ℕ → ℕ → Order → Reader
+readerWith held len fed stray start order =
+    record { held = held; len = len; fed = fed; stray = stray; start = start; order = order }
 
 -- what one byte tells: nothing, or an event with its length
 pub data Told : Type 0 where
   nothing : Told
   event : Outcome Record → ℕ → Told
 
--- "inside, ETX ends it and it is judged"
-abbrev pub judgement : List ℕ → Outcome Record
-judgement held = readOf true (held ++ etx ∷ [])
+-- "inside, ETX ends it and it is judged", in the line's order
+abbrev pub judgement : Order → List ℕ → Outcome Record
+judgement order held = readIn order true (held ++ etx ∷ [])
 
 -- "outside a telegram STX begins one; any other byte is stray and counted"; "inside, ETX ends it .. STX gives 9 for
 -- the bytes held and begins a new telegram with itself. Any other byte is held, but if 24 are already held it gives 10, belongs to
@@ -56,10 +60,10 @@ heldAfter (first ∷ held) byte =
     (cond (eqb byte stx) (stx ∷ [])
     (cond (leb places (length (first ∷ held))) [] ((first ∷ held) ++ byte ∷ [])))
 
-abbrev pub toldBy : List ℕ → ℕ → Told
-toldBy [] byte = nothing
-toldBy (first ∷ held) byte =
-    cond (eqb byte etx) (event (judgement (first ∷ held)) (length (first ∷ held) + 1))
+abbrev pub toldBy : Order → List ℕ → ℕ → Told
+toldBy order [] byte = nothing
+toldBy order (first ∷ held) byte =
+    cond (eqb byte etx) (event (judgement order (first ∷ held)) (length (first ∷ held) + 1))
     (cond (eqb byte stx) (event (refused 9) (length (first ∷ held)))
     (cond (leb places (length (first ∷ held))) (event (refused 10) longest) nothing))
 
@@ -68,7 +72,8 @@ strayBy [] byte = cond (eqb byte stx) 0 1
 strayBy (first ∷ held) byte = 0
 
 abbrev pub step : Line → ℕ → Line
-step line byte = lineWith (heldAfter (line .held) byte) (line .fed + 1) (line .stray + strayBy (line .held) byte)
+step line byte =
+    lineWith (heldAfter (line .held) byte) (line .fed + 1) (line .stray + strayBy (line .held) byte) (line .order)
 
 -- "the start position is fed less held, with the wrap"
 abbrev pub startOf : Line → ℕ
@@ -88,12 +93,12 @@ stopOr (event outcome size) start next later = record { line = next; taken = 1; 
 
 abbrev pub feedOf : Line → List ℕ → Feeding
 feedOf line [] = record { line = line; taken = 0; told = nothing; at = 0 }
-feedOf line (byte ∷ piece) = stopOr (toldBy (line .held) byte) (startOf line) (step line byte) (feedOf (step line byte) piece)
+feedOf line (byte ∷ piece) = stopOr (toldBy (line .order) (line .held) byte) (startOf line) (step line byte) (feedOf (step line byte) piece)
 
 -- "the end of the line is its own call: 11 for the bytes held if any, else nothing; the state after it is outside, with fed and
 -- stray kept"
 abbrev pub ended : Line → Line
-ended line = lineWith [] (line .fed) (line .stray)
+ended line = lineWith [] (line .fed) (line .stray) (line .order)
 
 abbrev pub toldByEnd : List ℕ → Told
 toldByEnd [] = nothing
@@ -103,16 +108,20 @@ toldByEnd (first ∷ held) = event (refused 11) (length (first ∷ held))
 abbrev pub readerOf : Line → Reader
 readerOf line =
     readerWith (line .held ++ replicate (places - length (line .held)) 0) (length (line .held)) (line .fed % 2 ^ 32) (line .stray % 2 ^ 32) (startOf line)
+    (line .order)
 
 abbrev pub lineOf : Reader → Line
-lineOf reader = lineWith (take (reader .len) (reader .held)) (reader .fed) (reader .stray)
+lineOf reader = lineWith (take (reader .len) (reader .held)) (reader .fed) (reader .stray) (reader .order)
 
--- "a fresh one holds none and all its counts are 0"
-abbrev pub freshLine : Line
-freshLine = lineWith [] 0 0
+-- "a fresh one holds none and all its counts are 0", for a line of a named order; "as-printed if not named"
+abbrev pub freshLine : Order → Line
+freshLine order = lineWith [] 0 0 order
+
+abbrev pub freshIn : Order → Reader
+freshIn order = readerWith (replicate places 0) 0 0 0 0 order
 
 abbrev pub freshReader : Reader
-freshReader = readerWith (replicate places 0) 0 0 0 0
+freshReader = freshIn AsPrinted
 
 -- "at most 24 held; if any, the first is STX and no other is STX or ETX; places beyond the held ones are zero; the start position is
 -- fed less held, with the wrap"

@@ -1,4 +1,5 @@
--- Demand 3: a line of good records, each written with control characters and without advance, with any bytes but STX around.
+-- Demand 3: a line of good records, each written with control characters, without advance and in the line's order, with any bytes but
+-- STX around.
 use mathlib.Core.Bool.{Bool, true, not, _&&_}
 use mathlib.Core.List.{List, [], _∷_, _++_}
 use Prim.Native.Nat.{ℕ, _+_, _%_, _^_}
@@ -7,7 +8,8 @@ use lib.ListN.{length}
 use Rattle.record.specs.declared.Record.{Record}
 use Rattle.record.specs.declared.RecordAnswer.the-variants as answer
 use Rattle.record.specs.Rule.{refusalOf}
-use Rattle.telegram.specs.Writing.{telegramOf}
+use Rattle.trailer.specs.declared.Order.{Order}
+use Rattle.telegram.specs.Writing.{telegramIn}
 use Rattle.ascii.specs.Control.{stx}
 use Rattle.line.specs.declared.Heard.{Heard}
 use Rattle.line.specs.declared.Heard.the-variants.{Event}
@@ -18,9 +20,9 @@ pub record Sent : Type 0 where
   pub rec : Record
 
 -- the bytes of the whole line, with those behind the last telegram
-abbrev pub bytesSent : List Sent → List ℕ → List ℕ
-bytesSent [] behind = behind
-bytesSent (sent ∷ others) behind = sent .before ++ (telegramOf true (sent .rec) ++ bytesSent others behind)
+abbrev pub bytesSent : Order → List Sent → List ℕ → List ℕ
+bytesSent order [] behind = behind
+bytesSent order (sent ∷ others) behind = sent .before ++ (telegramIn order true (sent .rec) ++ bytesSent order others behind)
 
 -- "any bytes but STX before, between and after"; good records
 abbrev pub noStx : List ℕ → Bool
@@ -32,11 +34,11 @@ allGood [] behind = noStx behind
 allGood (sent ∷ others) behind = (noStx (sent .before) && eqb (refusalOf (sent .rec)) 0) && allGood others behind
 
 -- "exactly those records in that order", each with its true position and length
-abbrev pub eventsSent : ℕ → List Sent → List Heard
-eventsSent from [] = []
-eventsSent from (sent ∷ others) =
-    Event (answer.Good (sent .rec)) ((from + length (sent .before)) % 2 ^ 32) (length (telegramOf true (sent .rec)))
-    ∷ eventsSent (from + length (sent .before) + length (telegramOf true (sent .rec))) others
+abbrev pub eventsSent : Order → ℕ → List Sent → List Heard
+eventsSent order from [] = []
+eventsSent order from (sent ∷ others) =
+    Event (answer.Good (sent .rec)) ((from + length (sent .before)) % 2 ^ 32) (length (telegramIn order true (sent .rec)))
+    ∷ eventsSent order (from + length (sent .before) + length (telegramIn order true (sent .rec))) others
 
 -- the true number of stray bytes
 abbrev pub straySent : List Sent → List ℕ → ℕ

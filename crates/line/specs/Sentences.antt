@@ -4,10 +4,12 @@ use mathlib.Core.List.{List, [], map}
 use mathlib.Core.Path.{_≡_}
 use Prim.Native.Nat.{ℕ, _+_, _-_, _%_, _^_, _≤_, _<_}
 use lib.ListN.{length, take, drop}
+use Rattle.trailer.specs.declared.Order.{Order}
+use Rattle.trailer.specs.declared.Order.the-variants.{AsPrinted}
 use Rattle.line.specs.declared.Reader.{Reader}
 use Rattle.line.specs.declared.Fed.{Fed}
 use Rattle.line.specs.declared.Heard.the-variants.{Nothing}
-use Rattle.line.specs.Line.{Line, startOf, readerOf, lineOf, freshLine, freshReader, wellFormed, AsDeclared, feedReader, endReader}
+use Rattle.line.specs.Line.{Line, readerWith, startOf, readerOf, lineOf, freshLine, freshIn, freshReader, wellFormed, AsDeclared, feedReader, endReader}
 use Rattle.line.specs.Cuts.{eventsOf, lineAfter, Calls, heardThen, feeding, Served, bytesServed, heardOf, readerBehind, AllUsedUp, serve, heardFrom, readerAfter, UsedUp}
 use Rattle.line.specs.Pieces.{room, passing, usingUp}
 use Rattle.line.specs.Account.{sizesOf, lengthsOf, straysOf}
@@ -15,7 +17,27 @@ use Rattle.line.specs.Account.{sizesOf, lengthsOf, straysOf}
 -- "a fresh one holds none and all its counts are 0"
 abbrev pub AFreshOneHoldsNone : Type 0
 AFreshOneHoldsNone =
-    (wellFormed freshReader ≡ true) × (freshReader .len ≡ 0) × (freshReader .fed ≡ 0) × (freshReader .stray ≡ 0) × (freshReader .start ≡ 0)
+    (order : Order)
+    → let fresh = freshIn order in
+    (wellFormed fresh ≡ true) × (fresh .len ≡ 0) × (fresh .fed ≡ 0) × (fresh .stray ≡ 0) × (fresh .start ≡ 0) × (fresh .order ≡ order)
+
+-- document 02, f, "as-printed if not named"
+abbrev pub AFreshOneIsAsPrintedIfNotNamed : Type 0
+AFreshOneIsAsPrintedIfNotNamed = freshReader .order ≡ AsPrinted
+
+-- "a setting of the line": whatever the order, a state is as well formed as it was, and no call changes it
+abbrev pub inTheOrder : Order → Reader → Reader
+inTheOrder order reader = readerWith (reader .held) (reader .len) (reader .fed) (reader .stray) (reader .start) order
+
+abbrev pub EveryOrderIsWellFormed : Type 0
+EveryOrderIsWellFormed = (reader : Reader) (order : Order) → wellFormed (inTheOrder order reader) ≡ wellFormed reader
+
+abbrev pub TheOrderStays : Type 0
+TheOrderStays =
+    (reader : Reader) (piece : List ℕ) (more : ℕ)
+    → (feedReader reader piece .reader .order ≡ reader .order)
+    × (passing more reader piece .reader .order ≡ reader .order)
+    × (endReader reader .reader .order ≡ reader .order)
 
 -- "and hands the state back": what feed, use_up and end return for a well-formed state is well formed
 abbrev pub AGoodStateStaysGood : Type 0
@@ -61,8 +83,8 @@ TheEndLeavesItOutside =
 -- carries, is where they begin
 abbrev pub TheStartIsWhereTheHeldBegin : Type 0
 TheStartIsWhereTheHeldBegin =
-    (bytes : List ℕ)
-    → let line = lineAfter freshLine bytes in
+    (order : Order) (bytes : List ℕ)
+    → let line = lineAfter (freshLine order) bytes in
     let start = length bytes - length (line .held) in
     (drop start bytes ≡ line .held) × (startOf line ≡ start % 2 ^ 32)
 
@@ -70,21 +92,21 @@ TheStartIsWhereTheHeldBegin =
 -- and they are the lengths of the events that were heard and the reader's stray count
 abbrev pub TheAccountHolds : Type 0
 TheAccountHolds =
-    (served : List Served) → UsedUp freshReader served
+    (order : Order) (served : List Served) → UsedUp (freshIn order) served
     → let bytes = bytesServed served in
-    let reader = readerAfter freshReader served in
-    (reader .fed ≡ (lengthsOf freshLine bytes + straysOf freshLine bytes + reader .len) % 2 ^ 32)
-    × (sizesOf (heardFrom freshReader served) ≡ lengthsOf freshLine bytes)
-    × (reader .stray ≡ straysOf freshLine bytes % 2 ^ 32)
+    let reader = readerAfter (freshIn order) served in
+    (reader .fed ≡ (lengthsOf (freshLine order) bytes + straysOf (freshLine order) bytes + reader .len) % 2 ^ 32)
+    × (sizesOf (heardFrom (freshIn order) served) ≡ lengthsOf (freshLine order) bytes)
+    × (reader .stray ≡ straysOf (freshLine order) bytes % 2 ^ 32)
 
 -- and so after the end, whose event has the bytes held
 abbrev pub TheAccountHoldsAfterTheEnd : Type 0
 TheAccountHoldsAfterTheEnd =
-    (served : List Served) → UsedUp freshReader served
+    (order : Order) (served : List Served) → UsedUp (freshIn order) served
     → let bytes = bytesServed served in
-    let ended = endReader (readerAfter freshReader served) in
-    (ended .reader .fed ≡ (lengthsOf freshLine bytes + sizesOf (heardThen (ended .heard) []) + straysOf freshLine bytes) % 2 ^ 32)
-    × (ended .reader .stray ≡ straysOf freshLine bytes % 2 ^ 32)
+    let ended = endReader (readerAfter (freshIn order) served) in
+    (ended .reader .fed ≡ (lengthsOf (freshLine order) bytes + sizesOf (heardThen (ended .heard) []) + straysOf (freshLine order) bytes) % 2 ^ 32)
+    × (ended .reader .stray ≡ straysOf (freshLine order) bytes % 2 ^ 32)
 
 -- "the caller passes on the rest of the piece that it hasn't taken": a call takes at least one byte of a piece that has one, so that any
 -- cut of a line is used up, and then what was heard is what the line's bytes tell, and the reader is theirs

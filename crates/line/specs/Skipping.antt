@@ -6,6 +6,7 @@ use mathlib.Core.Path.{_≡_}
 use Prim.Native.Nat.{ℕ, _+_, _≤_, _<_}
 use lib.ListN.{length, take, getD}
 use Rattle.ascii.specs.Control.{stx}
+use Rattle.trailer.specs.declared.Order.{Order}
 use Rattle.line.specs.declared.Fed.{Fed}
 use Rattle.line.specs.Line.{lineWith, readerOf, feedReader}
 use Rattle.line.specs.Runs.{hasStx, strayRun}
@@ -26,6 +27,6 @@ behind size fed = record { reader = fed .reader; taken = fed .taken + size; hear
 -- as if they had been
 abbrev pub StrayBytesMayBeSkipped : Type 0
 StrayBytesMayBeSkipped =
-    (fed stray : ℕ) (run rest : List ℕ) → hasStx run ≡ false
-    → feedReader (readerOf (lineWith [] fed stray)) (run ++ rest)
-    ≡ behind (length run) (feedReader (readerOf (lineWith [] (fed + length run) (stray + length run))) rest)
+    (fed stray : ℕ) (order : Order) (run rest : List ℕ) → hasStx run ≡ false
+    → feedReader (readerOf (lineWith [] fed stray order)) (run ++ rest)
+    ≡ behind (length run) (feedReader (readerOf (lineWith [] (fed + length run) (stray + length run) order)) rest)

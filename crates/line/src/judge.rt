@@ -2,6 +2,7 @@
 use super::PLACES;
 use record::RecordAnswer;
 use telegram::ETX;
+use trailer::Order;
 ghost use mathlib.Core.Path.{_≡_};
 ghost use Prim.Native.Nat.{min};
 ghost use lib.ListN.{take};
@@ -17,9 +18,9 @@ fn capped(len: usize) -> usize
     PLACES
 }
 
-// Reads the first `len` bytes held, with ETX behind them.
-pub(crate) fn judge(held: [u8; PLACES], len: usize) -> RecordAnswer
-    ensures { λ r. ⌜ recordAnswer r ≡ judgement (take len held) ⌝ }
+// Reads the first `len` bytes held, with ETX behind them, in the line's order.
+pub(crate) fn judge(held: [u8; PLACES], len: usize, order: Order) -> RecordAnswer
+    ensures { λ r. ⌜ recordAnswer r ≡ judgement order (take len held) ⌝ }
 {
     let size = capped(len);
     let mut whole = [0u8; PLACES + 1];
@@ -30,5 +31,5 @@ pub(crate) fn judge(held: [u8; PLACES], len: usize) -> RecordAnswer
     }
     whole[at] = ETX;
     let end = at + 1;
-    telegram::read::read(&whole[0..end], true)
+    telegram::read::read_in(&whole[0..end], true, order)
 }

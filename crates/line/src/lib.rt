@@ -13,9 +13,10 @@ use std::num::wrapping_add_u32;
 use std::num::wrapping_sub_u32;
 use telegram::ETX;
 use telegram::STX;
+use trailer::Order;
 ghost use mathlib.Core.Path.{_≡_};
 ghost use Rattle.line.specs.declared.Heard.the-variants.{Refused};
-ghost use Rattle.line.specs.Line.{lineWith, readerWith, freshReader, wellFormed, readerOf, feedReader, endReader, isStarted, allZero};
+ghost use Rattle.line.specs.Line.{lineWith, readerWith, freshIn, freshReader, wellFormed, readerOf, feedReader, endReader, isStarted, allZero};
 ghost use Rattle.line.specs.Runs.{strayRun};
 ghost use Rattle.ascii.specs.Control.{stx};
 ghost use mathlib.Core.Bool.{true};
@@ -36,6 +37,8 @@ pub struct Reader {
     pub fed: u32,
     pub stray: u32,
     pub start: u32,
+    // How the trailers on this line stand.
+    pub order: Order,
 }
 
 pub enum Heard {
@@ -115,8 +118,15 @@ fn moved(count: u32, by: usize) -> u32
 }
 
 // Every reader is built here.
-fn reader_with(held: [u8; PLACES], len: usize, fed: u32, stray: u32, start: u32) -> Reader
-    ensures { λ r. ⌜ r ≡ readerWith held len fed stray start ⌝ }
+fn reader_with(
+    held: [u8; PLACES],
+    len: usize,
+    fed: u32,
+    stray: u32,
+    start: u32,
+    order: Order,
+) -> Reader
+    ensures { λ r. ⌜ r ≡ readerWith held len fed stray start order ⌝ }
 {
     Reader {
         held: held,
@@ -124,23 +134,24 @@ fn reader_with(held: [u8; PLACES], len: usize, fed: u32, stray: u32, start: u32)
         fed: fed,
         stray: stray,
         start: start,
+        order: order,
     }
 }
 
 // A reader outside a telegram.
-fn outside(fed: u32, stray: u32) -> Reader
-    ensures { λ r. ⌜ r ≡ readerOf (lineWith [] fed stray) ⌝ }
+fn outside(fed: u32, stray: u32, order: Order) -> Reader
+    ensures { λ r. ⌜ r ≡ readerOf (lineWith [] fed stray order) ⌝ }
 {
-    reader_with([0u8; PLACES], 0, fed, stray, fed)
+    reader_with([0u8; PLACES], 0, fed, stray, fed, order)
 }
 
 // A reader that holds the STX it was fed last.
-fn begun(fed: u32, stray: u32) -> Reader
-    ensures { λ r. ⌜ r ≡ readerOf (lineWith (stx ∷ []) fed stray) ⌝ }
+fn begun(fed: u32, stray: u32, order: Order) -> Reader
+    ensures { λ r. ⌜ r ≡ readerOf (lineWith (stx ∷ []) fed stray order) ⌝ }
 {
     let mut held = [0u8; PLACES];
     held[0] = STX;
-    reader_with(held, 1, fed, stray, wrapping_sub_u32(fed, 1))
+    reader_with(held, 1, fed, stray, wrapping_sub_u32(fed, 1), order)
 }
 
 // A state that is not well formed comes back as it was.
@@ -166,9 +177,10 @@ fn feed_inside(reader: Reader, piece: &[u8]) -> Fed
     let len = reader.len + added;
     let stray = reader.stray;
     let start = reader.start;
+    let order = reader.order;
     if added == piece.len() {
         return Fed {
-            reader: reader_with(all, len, moved(reader.fed, added), stray, start),
+            reader: reader_with(all, len, moved(reader.fed, added), stray, start, order),
             taken: added,
             heard: Heard::Nothing,
         };
@@ -178,71 +190,79 @@ fn feed_inside(reader: Reader, piece: &[u8]) -> Fed
     let fed = moved(reader.fed, taken);
     let size = len as u32;
     if byte == ETX {
-        let answer = judge::judge(all, len);
+        let answer = judge::judge(all, len, order);
         let whole = size + 1;
         return Fed {
-            reader: outside(fed, stray),
+            reader: outside(fed, stray, order),
             taken: taken,
             heard: Heard::Event(answer, start, whole),
         };
     }
     if byte == STX {
         return Fed {
-            reader: begun(fed, stray),
+            reader: begun(fed, stray, order),
             taken: taken,
             heard: Heard::Event(RecordAnswer::Refused(STX_INSIDE), start, size),
         };
     }
     Fed {
-        reader: outside(fed, stray),
+        reader: outside(fed, stray, order),
         taken: taken,
         heard: Heard::Event(RecordAnswer::Refused(TOO_LONG), start, LONGEST),
     }
 }
 
 // Outside a telegram, with an STX behind so many stray bytes: it begins a telegram, and what follows is fed to that.
-fn feed_begun(fed: u32, stray: u32, skipped: usize, piece: &[u8]) -> Fed
+fn feed_begun(fed: u32, stray: u32, order: Order, skipped: usize, piece: &[u8]) -> Fed
     requires { ⌜ (skipped ≡ strayRun (now piece)) × (skipped < length (now piece)) ⌝ }
-    ensures { λ r. ⌜ r ≡ feedReader (readerOf (lineWith [] fed stray)) (now (piece .entry)) ⌝ }
+    ensures { λ r. ⌜ r ≡ feedReader (readerOf (lineWith [] fed stray order)) (now (piece .entry)) ⌝ }
 {
     let length = piece.len();
     let first = skipped + 1;
-    let inside = begun(moved(fed, first), moved(stray, skipped));
+    let inside = begun(moved(fed, first), moved(stray, skipped), order);
     let later = feed_inside(inside, &piece[first..length]);
+    let taken = first + later.taken;
     let reader = later.reader;
     let heard = later.heard;
     Fed {
         reader: reader,
-        taken: first + later.taken,
+        taken: taken,
         heard: heard,
     }
 }
 
 // Outside a telegram: the bytes before the first STX are stray, and counted at once. Where telegrams stand one behind another
 // there are none, so the first byte is looked at before any block.
-fn feed_outside(fed: u32, stray: u32, piece: &[u8]) -> Fed
-    ensures { λ r. ⌜ r ≡ feedReader (readerOf (lineWith [] fed stray)) (now (piece .entry)) ⌝ }
+fn feed_outside(fed: u32, stray: u32, order: Order, piece: &[u8]) -> Fed
+    ensures { λ r. ⌜ r ≡ feedReader (readerOf (lineWith [] fed stray order)) (now (piece .entry)) ⌝ }
 {
     if skip::begins_with_stx(piece) {
-        return feed_begun(fed, stray, 0, piece);
+        return feed_begun(fed, stray, order, 0, piece);
     }
     let skipped = skip::stray_run(piece);
     if skipped == piece.len() {
         return Fed {
-            reader: outside(moved(fed, skipped), moved(stray, skipped)),
+            reader: outside(moved(fed, skipped), moved(stray, skipped), order),
             taken: skipped,
             heard: Heard::Nothing,
         };
     }
-    feed_begun(fed, stray, skipped, piece)
+    feed_begun(fed, stray, order, skipped, piece)
 }
 
 impl Reader {
-    // A reader that was fed nothing.
+    // A reader that was fed nothing, of a line whose trailers stand as printed.
     pub fn fresh() -> Reader
         ensures { λ r. ⌜ r ≡ freshReader ⌝ }
     {
-        outside(0, 0)
+        Reader::fresh_in(Order::AsPrinted)
+    }
+
+    // The same of a line in a named order.
+    pub fn fresh_in(order: Order) -> Reader
+        ensures { λ r. ⌜ r ≡ freshIn order ⌝ }
+    {
+        outside(0, 0, order)
     }
 
     // Whether a state is one that feeding leads to; any other is refused.
@@ -271,7 +291,8 @@ impl Reader {
             return refused(self);
         }
         if self.len == 0 {
-            return feed_outside(self.fed, self.stray, piece);
+            let order = self.order;
+            return feed_outside(self.fed, self.stray, order, piece);
         }
         feed_inside(self, piece)
     }
@@ -286,7 +307,8 @@ impl Reader {
                 heard: Heard::Refused(STATE_ILL_FORMED),
             };
         }
-        let reader = outside(self.fed, self.stray);
+        let order = self.order;
+        let reader = outside(self.fed, self.stray, order);
         if self.len == 0 {
             return Ended {
                 reader: reader,

@@ -7,7 +7,7 @@ use Rattle.calendar.specs.TimeOfDay.{timeInRange}
 use Rattle.record.specs.Rule.{plainUtc, tableCanSay, statusAllowed, weekdayAllowed, weekdayAgrees, timeAllowed, timeAloneAllowed, timeAloneRefusal, datedRefusal}
 use Rattle.layouts.specs.Layouts.{placesOf, layoutOf}
 use Rattle.layouts.specs.Coding.{statusIn6021, statusIn5500}
-use Rattle.telegram.specs.Reading.{carried, bodyRefusal, readOf}
+use Rattle.telegram.specs.Reading.{carried, bodyRefusal, readIn}
 use Rattle.log.specs.Check.{checkOf}
 use Rattle.log.specs.Block.{filled, slotOf, bodyOf, sealed}
 use Rattle.log.specs.Good.{telegramIn, telegramsOf, readsWell, isKept, isGood}
@@ -18,7 +18,7 @@ use Rattle.log.specs.ReadBack.{readBackOf}
 use Rattle.log.specs.AsPrinted.{TheLogIsAsPrinted}
 
 pub log-as-printed : TheLogIsAsPrinted
-unfolding unless isDecimal isCapital codeValue isLeap monthLength monthInRange dateInRange dayExists monthStart dayOf timeInRange timeAllowed timeAloneAllowed timeAloneRefusal plainUtc tableCanSay statusAllowed weekdayAllowed weekdayAgrees datedRefusal placesOf layoutOf statusIn6021 statusIn5500 carried bodyRefusal readOf checkOf filled slotOf bodyOf sealed telegramIn telegramsOf readsWell isKept isGood blocksOf verifyOf placeIn placeFor readBackOf
+unfolding unless isDecimal isCapital codeValue isLeap monthLength monthInRange dateInRange dayExists monthStart dayOf timeInRange timeAllowed timeAloneAllowed timeAloneRefusal plainUtc tableCanSay statusAllowed weekdayAllowed weekdayAgrees datedRefusal placesOf layoutOf statusIn6021 statusIn5500 carried bodyRefusal readIn checkOf filled slotOf bodyOf sealed telegramIn telegramsOf readsWell isKept isGood blocksOf verifyOf placeIn placeFor readBackOf
 log-as-printed =
     record {
       two = refl;

@@ -15,7 +15,8 @@ use Rattle.record.specs.Rule.{statusAllowed, weekdayAllowed, weekdayAgrees, tim
 use Rattle.places.specs.Places.{faultOf, fixedHolds, decimalHolds, codeHolds, every}
 use Rattle.layouts.specs.declared.Layout.{Layout}
 use Rattle.layouts.specs.Layouts.{placesOf, layoutOf}
-use Rattle.telegram.specs.Reading.{bodyOf, framed, carried, bodyRefusal, readOf}
+use Rattle.trailer.specs.declared.Order.{Order}
+use Rattle.telegram.specs.Reading.{bodyIn, framed, carried, bodyRefusal, readIn}
 
 when-small : (n : ℕ) (holds : Bool) → n ≤ 8 → (n when holds) ≤ 8
 when-small n true h = h
@@ -62,14 +63,14 @@ layout-small body =
     (cond-small (eqb (length body) 23) _ _
     (cond-small (eqb (length body) 11) _ (refused 1) (omega arith))))))
 
-pub read-number : (control : Bool) (bytes : List ℕ) (n : ℕ) → readOf control bytes ≡ refused n → n ≤ 8
-unfolding readOf
-read-number control bytes n e = go (layoutOf (bodyOf control bytes)) (layout-small (bodyOf control bytes)) e
+pub read-number : (order : Order) (control : Bool) (bytes : List ℕ) (n : ℕ) → readIn order control bytes ≡ refused n → n ≤ 8
+unfolding readIn
+read-number order control bytes n e = go (layoutOf (bodyIn order control bytes)) (layout-small (bodyIn order control bytes)) e
   where
     go : (found : Outcome Layout) → Small found
-        → after found (λ layout. unless (2 when (control && not (framed bytes)) else bodyRefusal layout (bodyOf control bytes)) (carried layout (bodyOf control bytes))) ≡ refused n
+        → after found (λ layout. unless (2 when (control && not (framed bytes)) else bodyRefusal layout (bodyIn order control bytes)) (carried layout (bodyIn order control bytes))) ≡ refused n
         → n ≤ 8
     go (done layout) small e =
-        let number = 2 when (control && not (framed bytes)) else bodyRefusal layout (bodyOf control bytes) in
-        omega (arith, was-refused number n (carried layout (bodyOf control bytes)) e, else-small (2 when (control && not (framed bytes))) (bodyRefusal layout (bodyOf control bytes)) (when-small 2 (control && not (framed bytes)) (omega arith)) (body-small layout (bodyOf control bytes)))
+        let number = 2 when (control && not (framed bytes)) else bodyRefusal layout (bodyIn order control bytes) in
+        omega (arith, was-refused number n (carried layout (bodyIn order control bytes)) e, else-small (2 when (control && not (framed bytes))) (bodyRefusal layout (bodyIn order control bytes)) (when-small 2 (control && not (framed bytes)) (omega arith)) (body-small layout (bodyIn order control bytes)))
     go (refused k) small e = let same : k ≡ n = cc in omega (arith, same, small)

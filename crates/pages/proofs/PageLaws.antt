@@ -62,7 +62,7 @@ took-by : (reader : Reader) (byte : ℕ) (piece row : List ℕ) (good : Bool)
     → let fed : Fed = cond good (fedFor (feedOf (lineOf reader) (byte ∷ piece))) (record { reader = reader; taken = 0; heard = Refused 15 }) in
     rowFor (fed .heard) ≡ done row → 0 < fed .taken
 took-by reader byte piece row true e =
-    some-by (toldBy (lineOf reader .held) byte) (startOf (lineOf reader)) (step (lineOf reader) byte) (feedOf (step (lineOf reader) byte) piece)
+    some-by (toldBy (reader .order) (lineOf reader .held) byte) (startOf (lineOf reader)) (step (lineOf reader) byte) (feedOf (step (lineOf reader) byte) piece)
 took-by reader byte piece row false e = let z : _≡_ {A = ℕ} 0 1 = cc in absurd (omega arith)
 
 pub took-some : (reader : Reader) (piece row : List ℕ) → 0 < length piece → rowFor (feedReader reader piece .heard) ≡ done row

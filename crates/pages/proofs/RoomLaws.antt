@@ -12,7 +12,7 @@ use Rattle.laying.specs.OneBehindAnother.{part, partThen, oneBehindAnother, end
 use Rattle.laying.proofs.LayingLaws.{within-fits}
 use Rattle.laying.proofs.OneBehindAnotherLaws.{first-part, Comes, none, more, ends-by-room}
 use Rattle.line.specs.declared.Reader.{Reader}
-use Rattle.line.specs.Line.{Line, Told, nothing, event, Feeding, stopOr, feedOf, toldBy, step, startOf, readerOf, heardFor, fedFor, freshLine, freshReader}
+use Rattle.line.specs.Line.{Line, Told, nothing, event, Feeding, stopOr, feedOf, toldBy, step, startOf, readerOf, heardFor, fedFor, freshLine, freshIn}
 use Rattle.line.specs.Cuts.{eventsOf}
 use Rattle.line.proofs.StaysGood.{Good, good-feed, feed-good, reader-of-good}
 use Rattle.line.proofs.CutLaws.{feed-parts, some-by, shorter, good-fresh}
@@ -59,7 +59,7 @@ at-by (event outcome size) start next on s o = s
 at-fits : (line : Line) (piece : List ℕ) → feedOf line piece .at < 2 ^ 32
 at-fits line [] = omega arith
 at-fits line (byte ∷ piece) =
-    at-by (toldBy (line .held) byte) (startOf line) (step line byte) (feedOf (step line byte) piece) (mod-lt _ (omega arith)) (at-fits (step line byte) piece)
+    at-by (toldBy (line .order) (line .held) byte) (startOf line) (step line byte) (feedOf (step line byte) piece) (mod-lt _ (omega arith)) (at-fits (step line byte) piece)
 
 row-short : (told : Told) (at : ℕ) → at < 2 ^ 32 → Sound told → length (rowOfEvent (heardFor told at)) ≤ longestRow
 row-short nothing at fits sound = omega arith
@@ -80,7 +80,7 @@ takes-some room enough line good byte piece =
     first-part nextRow (length piece) room start (done row) rest (comes-row line good byte piece)
     ∙ ap (λ o. partThen o start (λ bytes. oneBehindAnother nextRow (length piece) (room - length bytes) rest)) (within-fits room row (omega arith)) in
     let tail = left-tail (length piece) (room - length row) rest in
-    omega (arith, ap (λ s. length (s .left .rest)) stands, ap length (tail .is), length-drop (tail .taken) (rest .rest), length-drop (feeding .taken) whole, some-by (toldBy (line .held) byte) (startOf line) (step line byte) (feedOf (step line byte) piece))
+    omega (arith, ap (λ s. length (s .left .rest)) stands, ap length (tail .is), length-drop (tail .taken) (rest .rest), length-drop (feeding .taken) whole, some-by (toldBy (line .order) (line .held) byte) (startOf line) (step line byte) (feedOf (step line byte) piece))
 
 pub call-takes-some : (room : ℕ) → longestRow ≤ room → (line : Line) → Good line → (byte : ℕ) (piece : List ℕ) → 0 < pageOf room (readerOf line) (byte ∷ piece) .taken
 call-takes-some room enough line good byte piece =
@@ -116,4 +116,4 @@ all-listed room enough (piece ∷ pieces) line reader good is =
     )
 
 pub every-cut-can-be-listed : EveryCutCanBeListed
-every-cut-can-be-listed room enough pieces = all-listed room enough pieces freshLine freshReader good-fresh refl
+every-cut-can-be-listed order room enough pieces = all-listed room enough pieces (freshLine order) (freshIn order) (good-fresh order) refl

@@ -14,18 +14,19 @@ use Rattle.laying.specs.OneBehindAnother.{part, joined, oneBehindAnother}
 use Rattle.laying.proofs.OneBehindAnotherLaws.{joined-behind, stands-by}
 use Rattle.record.specs.declared.Record.{Record}
 use Rattle.record.specs.Rule.{refusalOf}
-use Rattle.telegram.specs.Reading.{readOf}
-use Rattle.telegram.proofs.BackAndForth.{accepted-is-written}
+use Rattle.telegram.specs.Reading.{readIn}
+use Rattle.telegram.proofs.InOrder.{accepted}
+use Rattle.trailer.specs.declared.Order.{Order}
 use Rattle.line.specs.declared.Reader.{Reader}
 use Rattle.line.specs.declared.Heard.{Heard}
 use Rattle.line.specs.declared.Heard.the-variants.{Nothing, Event, Refused}
-use Rattle.line.specs.Line.{places, Line, Told, nothing, event, Feeding, stopOr, feedOf, toldBy, step, startOf, readerOf, heardFor, freshLine, freshReader, feedReader, endReader}
+use Rattle.line.specs.Line.{places, Line, Told, nothing, event, Feeding, stopOr, feedOf, toldBy, step, startOf, readerOf, heardFor, freshLine, freshIn, feedReader, endReader}
 use Rattle.line.specs.Cuts.{eventsOf, lineAfter, heardThen}
 use Rattle.line.proofs.StaysGood.{Good, good-feed, feed-good, end-good, reader-of-good}
 use Rattle.line.proofs.CutLaws.{feed-parts, events-join, after-join, good-after, good-fresh}
 use Rattle.listing.specs.Listing.{headerRow, recordRow, strayRow}
 use Rattle.pages.specs.Pages.{rowFor, Underway, behindCall, nextRow, rowsIn, Page, pageOf}
-use Rattle.pages.specs.Whole.{rowOfEvent, rowsOf, listingOf, Turns, turnsWith, Lent, bytesLent, rowsLaid, readerLeft, AllListed, WhatIsLaidIsTheListing}
+use Rattle.pages.specs.Whole.{rowOfEvent, rowsOf, listingIn, Turns, turnsWith, Lent, bytesLent, rowsLaid, readerLeft, AllListed, WhatIsLaidIsTheListing}
 use Rattle.pages.proofs.NumberLaws.{read-number}
 use Rattle.pages.proofs.PageLaws.{came, page-good, page-left}
 
@@ -35,20 +36,20 @@ Sound nothing = Unit
 Sound (event (done rec) size) = refusalOf rec ≡ 0
 Sound (event (refused n) size) = n < 2 ^ 8
 
-sound-read : (bytes : List ℕ) (size : ℕ) (outcome : Outcome Record) → readOf true bytes ≡ outcome → Sound (event outcome size)
-sound-read bytes size (done rec) e = accepted-is-written true bytes rec e .is-good
-sound-read bytes size (refused n) e = omega (arith, read-number true bytes n e)
+sound-read : (order : Order) (bytes : List ℕ) (size : ℕ) (outcome : Outcome Record) → readIn order true bytes ≡ outcome → Sound (event outcome size)
+sound-read order bytes size (done rec) e = accepted order true bytes rec e .is-good
+sound-read order bytes size (refused n) e = omega (arith, read-number order true bytes n e)
 
-sound-inside : (bytes : List ℕ) (size held longest : ℕ) (etx stx full : Bool)
-    → Sound (cond etx (event (readOf true bytes) size) (cond stx (event (refused 9) held) (cond full (event (refused 10) longest) nothing)))
-sound-inside bytes size held longest true stx full = sound-read bytes size (readOf true bytes) refl
-sound-inside bytes size held longest false true full = omega arith
-sound-inside bytes size held longest false false true = omega arith
-sound-inside bytes size held longest false false false = tt
+sound-inside : (order : Order) (bytes : List ℕ) (size held longest : ℕ) (etx stx full : Bool)
+    → Sound (cond etx (event (readIn order true bytes) size) (cond stx (event (refused 9) held) (cond full (event (refused 10) longest) nothing)))
+sound-inside order bytes size held longest true stx full = sound-read order bytes size (readIn order true bytes) refl
+sound-inside order bytes size held longest false true full = omega arith
+sound-inside order bytes size held longest false false true = omega arith
+sound-inside order bytes size held longest false false false = tt
 
-sound-told : (held : List ℕ) (byte : ℕ) → Sound (toldBy held byte)
-sound-told [] byte = tt
-sound-told (first ∷ held) byte = sound-inside _ _ _ _ (eqb byte etx) (eqb byte stx) (leb places (length (first ∷ held)))
+sound-told : (order : Order) (held : List ℕ) (byte : ℕ) → Sound (toldBy order held byte)
+sound-told order [] byte = tt
+sound-told order (first ∷ held) byte = sound-inside order _ _ _ _ (eqb byte etx) (eqb byte stx) (leb places (length (first ∷ held)))
 
 stop-sound : (told : Told) (start : ℕ) (next : Line) (on : Feeding) → Sound told → Sound (on .told) → Sound (stopOr told start next on .told)
 stop-sound nothing start next on here later = later
@@ -57,7 +58,7 @@ stop-sound (event outcome size) start next on here later = here
 pub sound-feed : (line : Line) (piece : List ℕ) → Sound (feedOf line piece .told)
 sound-feed line [] = tt
 sound-feed line (byte ∷ piece) =
-    stop-sound (toldBy (line .held) byte) (startOf line) (step line byte) (feedOf (step line byte) piece) (sound-told (line .held) byte) (sound-feed (step line byte) piece)
+    stop-sound (toldBy (line .order) (line .held) byte) (startOf line) (step line byte) (feedOf (step line byte) piece) (sound-told (line .order) (line .held) byte) (sound-feed (step line byte) piece)
 
 -- so what is heard has its row
 pub row-told : (told : Told) (at : ℕ) → Sound told → rowFor (heardFor told at) ≡ done (rowOfEvent (heardFor told at))
@@ -167,9 +168,9 @@ line-listed (lent ∷ others) line reader good is used =
     )
 
 pub what-is-laid : WhatIsLaidIsTheListing
-unfolding listingOf
-what-is-laid lents used =
-    let all = line-listed lents freshLine freshReader good-fresh refl used in
-    let line = lineAfter freshLine (bytesLent lents) in
+unfolding listingIn
+what-is-laid order lents used =
+    let all = line-listed lents (freshLine order) (freshIn order) (good-fresh order) refl used in
+    let line = lineAfter (freshLine order) (bytesLent lents) in
     ap₂ (λ rows reader. headerRow ++ rows ++ rowOfEvent (endReader reader .heard) ++ strayRow (reader .stray)) (all .0) (all .1)
-    ∙ ap (λ heard. headerRow ++ rowsOf (eventsOf freshLine (bytesLent lents)) ++ rowOfEvent heard ++ strayRow (readerOf line .stray)) (ap (λ ended. ended .heard) (end-good line (good-after freshLine (bytesLent lents) good-fresh)))
+    ∙ ap (λ heard. headerRow ++ rowsOf (eventsOf (freshLine order) (bytesLent lents)) ++ rowOfEvent heard ++ strayRow (readerOf line .stray)) (ap (λ ended. ended .heard) (end-good line (good-after (freshLine order) (bytesLent lents) (good-fresh order))))

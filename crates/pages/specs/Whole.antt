@@ -1,4 +1,4 @@
--- Document 01, "Listing, whole": the listing of a line, and a caller that lays it piece by piece.
+-- Document 01, "Listing, whole", and document 02, f: the listing of a line, in either order, and a caller that lays it piece by piece.
 use mathlib.Core.List.{List, [], _∷_, _++_, map}
 use mathlib.Core.Path.{_≡_}
 use Prim.Native.Nat.{ℕ, _%_, _^_, _≤_}
@@ -6,10 +6,12 @@ use Prim.{Unit}
 use lib.ListN.{length, drop, replicate}
 use Rattle.laying.specs.OneBehindAnother.{joined}
 use Rattle.record.specs.declared.RecordAnswer.the-variants as answer
+use Rattle.trailer.specs.declared.Order.{Order}
+use Rattle.trailer.specs.declared.Order.the-variants.{AsPrinted}
 use Rattle.line.specs.declared.Reader.{Reader}
 use Rattle.line.specs.declared.Heard.{Heard}
 use Rattle.line.specs.declared.Heard.the-variants.{Nothing, Event, Refused}
-use Rattle.line.specs.Line.{Line, freshLine, freshReader, toldByEnd, startOf, heardFor, endReader}
+use Rattle.line.specs.Line.{Line, freshLine, freshIn, toldByEnd, startOf, heardFor, endReader}
 use Rattle.line.specs.Cuts.{eventsOf, lineAfter}
 use Rattle.listing.specs.Listing.{longestRow, headerRow, recordRow, refusedRow, strayRow}
 use Rattle.pages.specs.Pages.{pageOf}
@@ -29,12 +31,16 @@ abbrev pub lastHeard : Line → Heard
 lastHeard line = heardFor (toldByEnd (line .held)) (startOf line)
 
 -- the listing of a line: the header, a row for each event, the last event's row, if any, and the number of stray bytes, with its wrap
-unfoldable pub listingOf : List ℕ → List ℕ
-listingOf bytes =
+unfoldable pub listingIn : Order → List ℕ → List ℕ
+listingIn order bytes =
     headerRow
-    ++ rowsOf (eventsOf freshLine bytes)
-    ++ rowOfEvent (lastHeard (lineAfter freshLine bytes))
-    ++ strayRow (lineAfter freshLine bytes .stray % 2 ^ 32)
+    ++ rowsOf (eventsOf (freshLine order) bytes)
+    ++ rowOfEvent (lastHeard (lineAfter (freshLine order) bytes))
+    ++ strayRow (lineAfter (freshLine order) bytes .stray % 2 ^ 32)
+
+-- "as-printed if not named"
+abbrev pub listingOf : List ℕ → List ℕ
+listingOf = listingIn AsPrinted
 
 -- A caller lists a piece in turns: each time what is left of it is lent again, with a buffer of some length.
 pub record Turns : Type 0 where
@@ -75,20 +81,22 @@ AllListed reader (lent ∷ others) =
     (turnsWith (lent .rooms) reader (lent .piece) .rest ≡ []) × AllListed (turnsWith (lent .rooms) reader (lent .piece) .reader) others
 
 -- what is laid for a line in all: by `header`, by `list` for each piece, by `row_for` at the end, by `stray_line`
-abbrev pub allLaid : List Lent → List ℕ
-allLaid lents =
+abbrev pub allLaid : Order → List Lent → List ℕ
+allLaid order lents =
     headerRow
-    ++ rowsLaid freshReader lents
-    ++ rowOfEvent (endReader (readerLeft freshReader lents) .heard)
-    ++ strayRow (readerLeft freshReader lents .stray)
+    ++ rowsLaid (freshIn order) lents
+    ++ rowOfEvent (endReader (readerLeft (freshIn order) lents) .heard)
+    ++ strayRow (readerLeft (freshIn order) lents .stray)
 
 -- However a line is cut, and whatever buffers are lent: what is laid, one behind another, is the listing of the line.
 abbrev pub WhatIsLaidIsTheListing : Type 0
-WhatIsLaidIsTheListing = (lents : List Lent) → AllListed freshReader lents → allLaid lents ≡ listingOf (bytesLent lents)
+WhatIsLaidIsTheListing =
+    (order : Order) (lents : List Lent) → AllListed (freshIn order) lents → allLaid order lents ≡ listingIn order (bytesLent lents)
 
 -- Every cut can be listed so: with buffers that hold the longest row, as many turns as a piece has bytes use it up.
 abbrev pub lentWith : ℕ → List ℕ → Lent
 lentWith room piece = record { piece = piece; rooms = replicate (length piece) room }
 
 abbrev pub EveryCutCanBeListed : Type 0
-EveryCutCanBeListed = (room : ℕ) → longestRow ≤ room → (pieces : List (List ℕ)) → AllListed freshReader (map (lentWith room) pieces)
+EveryCutCanBeListed =
+    (order : Order) (room : ℕ) → longestRow ≤ room → (pieces : List (List ℕ)) → AllListed (freshIn order) (map (lentWith room) pieces)

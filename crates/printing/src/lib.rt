@@ -5,9 +5,10 @@ use line::Reader;
 use listing::LONGEST_ROW;
 use listing::RowAnswer;
 use refusals::STATE_ILL_FORMED;
+use trailer::Order;
 ghost use mathlib.Core.Path.{_≡_};
 ghost use Prim.Native.Nat.{min};
-ghost use Rattle.line.specs.Line.{freshReader, endReader};
+ghost use Rattle.line.specs.Line.{freshIn, freshReader, endReader};
 ghost use Rattle.pages.specs.Pages.{pageOf};
 ghost use Rattle.printing.specs.declared.Output.the-variants.{Whole};
 ghost use Rattle.printing.specs.Printing.{pageRoom, afterPiece, printed, printedRow};
@@ -163,12 +164,19 @@ fn print_end(reader: Reader) -> Printer
 }
 
 impl Printer {
-    // A fresh reader; the header is written.
+    // A fresh reader, as printed; the header is written.
     pub fn start() -> Printer
         ensures { λ r. ⌜ r .reader ≡ freshReader ⌝ }
     {
+        Printer::start_in(Order::AsPrinted)
+    }
+
+    // The same for a line in a named order.
+    pub fn start_in(order: Order) -> Printer
+        ensures { λ r. ⌜ r .reader ≡ freshIn order ⌝ }
+    {
         Printer {
-            reader: Reader::fresh(),
+            reader: Reader::fresh_in(order),
             output: print_header(),
         }
     }

@@ -22,7 +22,7 @@ returns c =
     let args = c .before .before .args in
     let sub = c .before .wrapping-sub-u32 in
     let start = start-is (args .fed) 1 (sub .result) (omega arith) (omega arith) (omega arith) (sub .ensures) in
-    c .reader-with .ensures ∙ reader-is (stx ∷ []) (args .fed) (args .stray) _ (omega arith) (omega arith) (sym start)
+    c .reader-with .ensures ∙ reader-is (args .order) (stx ∷ []) (args .fed) (args .stray) _ (omega arith) (omega arith) (sym start)
 
 pub begun-spec : {M : Type 1} → statement M
 begun-spec = tie.close (tie.spec array-write-held wrapping-sub-u32-requires reader-with-requires returns)

@@ -37,24 +37,25 @@ part-feed-inside-end c = search needs
 feed-inside-requires : tie.Need-feed-inside-requires
 feed-inside-requires c κs =
     let begun = c .before .begun .ensures in
-    (ap wellFormed begun ∙ reader-well (stx ∷ []) (c .before .before .before .moved .result) (c .before .before .moved2 .result) (omega arith) refl, omega (arith, ap (λ reader. reader .len) begun))
+    (ap wellFormed begun ∙ reader-well (c .before .before .before .before .before .args .order) (stx ∷ []) (c .before .before .before .moved .result) (c .before .before .moved2 .result) (omega arith) refl, omega (arith, ap (λ reader. reader .len) begun))
 
-add-t14 : tie.Need-add-t14
-add-t14 c =
-    let piece = c .before .before .before .before .before .before .before .before .args .piece .now in
-    let first = c .before .before .before .before .before .before .before .before .args .skipped + 1 in
+add-taken : tie.Need-add-taken
+add-taken c =
+    let piece = c .before .before .before .before .before .before .before .args .piece .now in
+    let first = c .before .before .before .before .before .before .before .args .skipped + 1 in
     let rest = take (length piece - first) (drop first piece) in
-    let fed = c .before .before .before .before .before .before .moved .result in
-    let stray = c .before .before .before .before .before .moved2 .result in
-    let told = c .before .before .feed-inside .ensures ∙ ap (λ reader. feedReader reader rest) (c .before .before .before .before .begun .ensures) ∙ feed-reader (stx ∷ []) fed stray (omega arith) refl rest in
-    let taken = taken-fits (lineWith (stx ∷ []) fed stray) rest in
-    omega (arith, ap (λ fed. fed .taken) told, taken, length-take (length piece - first) (drop first piece), length-drop first piece, c .before .before .before .before .before .before .before .before .pre)
+    let fed = c .before .before .before .before .before .moved .result in
+    let stray = c .before .before .before .before .moved2 .result in
+    let order = c .before .before .before .before .before .before .before .args .order in
+    let told = c .before .feed-inside .ensures ∙ ap (λ reader. feedReader reader rest) (c .before .before .before .begun .ensures) ∙ feed-reader order (stx ∷ []) fed stray (omega arith) refl rest in
+    let taken = taken-fits (lineWith (stx ∷ []) fed stray order) rest in
+    omega (arith, ap (λ fed. fed .taken) told, taken, length-take (length piece - first) (drop first piece), length-drop first piece, c .before .before .before .before .before .before .before .pre)
 
 returns : tie.Need-returns
 returns c =
     let piece = c .before .before .before .before .before .before .before .before .args .piece .now in
     let first = c .before .before .before .before .before .before .before .before .args .skipped + 1 in
-    outside-starts (c .before .before .before .before .before .before .before .before .args .fed) (c .before .before .before .before .before .before .before .before .args .stray) piece _ _ _ _ (c .before .before .feed-inside .result)
+    outside-starts (c .before .before .before .before .before .before .before .before .args .order) (c .before .before .before .before .before .before .before .before .args .fed) (c .before .before .before .before .before .before .before .before .args .stray) piece _ _ _ _ (c .before .before .feed-inside .result)
     (c .before .before .before .before .before .before .before .before .pre .0)
     (c .before .before .before .before .before .before .before .before .pre .1)
     (c .before .before .before .before .before .before .moved .ensures)
@@ -74,5 +75,5 @@ feed-begun-spec =
     part-feed-inside-start
     part-feed-inside-end
     feed-inside-requires
-    add-t14
+    add-taken
     returns)

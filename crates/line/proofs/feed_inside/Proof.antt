@@ -45,7 +45,7 @@ returns c =
     let n = c .before .before .before .before .before .gather .ensures .0 in
     let fed = c .before .moved .ensures ∙ ap (λ k. (reader .fed + k) % 2 ^ 32) n in
     let held = c .before .before .before .before .before .gather .ensures .1 in
-    let same = c .reader-with .ensures ∙ (λ i. readerWith (held i) (reader .len + n i) (fed i) (reader .stray) (reader .start)) in
+    let same = c .reader-with .ensures ∙ (λ i. readerWith (held i) (reader .len + n i) (fed i) (reader .stray) (reader .start) (reader .order)) in
     (λ i. record { reader = same i; taken = n i; heard = Nothing })
     ∙ sym (inside-holds reader piece size good some (omega (arith, start .good)) (sym n ∙ c .before .before .if1 .taken))
 
@@ -114,11 +114,11 @@ returns-2 c =
     let more : added reader piece size good some < length piece = omega (arith, n, added-fits reader piece size good some .1) in
     let is-etx = ap (λ k. getD piece k 0) (sym n) ∙ c .before .before .if2 .taken in
     let bytes = ap₂ (λ k all. take (reader .len + k) all) n (c .before .before .before .before .before .before .before .before .gather .ensures .1) ∙ judged reader piece size good some in
-    stops-with reader piece size good some [] (judgement (gathered reader piece size good some)) (length (gathered reader piece size good some) + 1) (omega arith) (told-etx reader piece size good some more is-etx) _ _ _ _ _
+    stops-with reader piece size good some [] (judgement (reader .order) (gathered reader piece size good some)) (length (gathered reader piece size good some) + 1) (omega arith) (told-etx reader piece size good some more is-etx) _ _ _ _ _
     (c .outside .ensures)
     (c .before .before .before .moved2 .ensures)
     n
-    (answered (c .before .judge .result) ∙ ap answerFor (c .before .judge .ensures ∙ ap judgement bytes))
+    (answered (c .before .judge .result) ∙ ap answerFor (c .before .judge .ensures ∙ ap (judgement (reader .order)) bytes))
     (omega (arith, n, gathered-size reader piece size good some))
 
 begun-requires : tie.Need-begun-requires

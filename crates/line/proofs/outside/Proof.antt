@@ -13,7 +13,7 @@ reader-with-requires c κs = search needs
 returns : tie.Need-returns
 returns c =
     let args = c .before .args in
-    c .reader-with .ensures ∙ reader-is [] (args .fed) (args .stray) _ (omega arith) (omega arith) (omega arith)
+    c .reader-with .ensures ∙ reader-is (args .order) [] (args .fed) (args .stray) _ (omega arith) (omega arith) (omega arith)
 
 pub outside-spec : {M : Type 1} → statement M
 outside-spec = tie.close (tie.spec reader-with-requires returns)

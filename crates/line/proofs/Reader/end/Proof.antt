@@ -24,8 +24,8 @@ returns-2 c =
     let well-formed = sym (c .before .before .before .before .is-well-formed .ensures) ∙ not-false _ (c .before .before .before .if1 .left) in
     (λ i. record { reader = c .before .before .outside .ensures i; heard = Nothing }) ∙ sym (end-outside (c .before .before .before .before .before .args .self) well-formed (c .if2 .taken))
 
-cast-t8 : tie.Need-cast-t8
-cast-t8 c =
+cast-t9 : tie.Need-cast-t9
+cast-t9 c =
     let well-formed = sym (c .before .before .before .before .before .is-well-formed .ensures) ∙ not-false _ (c .before .before .before .before .if1 .left) in
     omega (arith, well (c .before .before .before .before .before .before .args .self) well-formed .fits)
 
@@ -40,4 +40,4 @@ returns-3 c =
 pub end-spec : {M : Type 1} → statement M
 end-spec =
     tie.close
-    (tie.spec is-well-formed-requires returns outside-requires returns-2 cast-t8 returns-3)
+    (tie.spec is-well-formed-requires returns outside-requires returns-2 cast-t9 returns-3)
