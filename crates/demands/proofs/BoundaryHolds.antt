@@ -11,11 +11,11 @@ use Rattle.record.specs.Rule.{plainUtc, tableCanSay, statusAllowed, weekdayAllo
 use Rattle.record.specs.Utc.{numberedAs}
 use Rattle.layouts.specs.Layouts.{placesOf, layoutOf}
 use Rattle.layouts.specs.Coding.{statusIn6021, statusIn5500}
-use Rattle.telegram.specs.Reading.{carried, bodyRefusal, readOf}
+use Rattle.telegram.specs.Reading.{carried, bodyRefusal, readIn}
 use Rattle.board.specs.Of6036.{parameterIn}
 use Rattle.demands.specs.Boundary.{TheBoundaryTableHolds}
 
 pub boundary-table : TheBoundaryTableHolds
-unfolding unless numberedAs momentOf sixtyBehind59 takesSixty dayNumber secondOfDay dateRefusal timeRefusal isDecimal isCapital codeValue isLeap monthLength monthInRange dateInRange dayExists monthStart dayOf timeInRange timeAllowed timeAloneAllowed timeAloneRefusal secondsOf plainUtc tableCanSay statusAllowed weekdayAllowed weekdayAgrees datedRefusal seasonShift toUtc placesOf layoutOf statusIn6021 statusIn5500 carried bodyRefusal readOf parameterIn
+unfolding unless numberedAs momentOf sixtyBehind59 takesSixty dayNumber secondOfDay dateRefusal timeRefusal isDecimal isCapital codeValue isLeap monthLength monthInRange dateInRange dayExists monthStart dayOf timeInRange timeAllowed timeAloneAllowed timeAloneRefusal secondsOf plainUtc tableCanSay statusAllowed weekdayAllowed weekdayAgrees datedRefusal seasonShift toUtc placesOf layoutOf statusIn6021 statusIn5500 carried bodyRefusal readIn parameterIn
 boundary-table =
     ((refl, refl), ((refl, refl), ((refl, refl), ((refl, refl), ((refl, refl), ((refl, refl), ((refl, refl), ((refl, refl), ((refl, refl), ((refl, refl), ((refl, refl), (refl, (refl, tt)))))))))))))

@@ -1,6 +1,6 @@
 -- Demand 1 holds. Assumes nothing.
 use mathlib.Core.Path.{_≡_, refl, ap, sym, _∙_}
-use mathlib.Core.Bool.{Bool, true, false, not, _||_}
+use mathlib.Core.Bool.{Bool, true, false, not, _&&_, _||_}
 use mathlib.Core.List.{List, [], _∷_, _++_, map}
 use Prim.Native.Nat.{ℕ, _+_, _-_, _≤_}
 use native.Mathlib.Omega.{arith}
@@ -28,20 +28,22 @@ use Rattle.places.specs.Places.{fixedHolds, decimalHolds, codeHolds, every, fau
 use Rattle.layouts.specs.declared.Layout.{Layout}
 use Rattle.layouts.specs.Layouts.{layoutOf}
 use Rattle.telegram.specs.declared.write.Choice.{Choice}
-use Rattle.telegram.specs.declared.write.Choice.the-variants.{Named, Unnamed}
+use Rattle.telegram.specs.declared.write.Choice.the-variants.{Named, NamedIn, Unnamed}
 use Rattle.telegram.specs.declared.several.Several.{Several}
-use Rattle.telegram.specs.Reading.{bodyOf, carried, readOf}
+use Rattle.telegram.specs.Reading.{bodyIn, carried, readIn}
 use Rattle.telegram.specs.Writing.{telegramFor, written, severalAfter}
 use Rattle.telegram.proofs.SeveralLaws.{oneMore, ended-before, one-more}
 use Rattle.clock.specs.Stepping.{stepOf}
 use Rattle.clock.specs.Answers.{stepAnswer}
 use Rattle.clock.proofs.StepLaws.{refused-is-unchanged}
-use Rattle.board.specs.Switches.{byteOf}
+use Rattle.board.specs.Switches.{switch, byteOf}
 use Rattle.board.specs.Of6036.{offered, switchesFor, byteFor}
+use Rattle.board.specs.Of6038 as of-6038
+use Rattle.board.specs.RoundTrip6038.{isOffOn}
 use Rattle.demands.specs.Lengths.{sevenLayouts, lengthOf}
 use Rattle.demands.specs.Numbers.{_givenWhen_, firstOf, among, _refusedBy_, _byFirst_}
 use Rattle.demands.specs.Rules.{placeRules, dateRules, recordRules, rulesIn, readingRules, nextSecondRules, writingRules, countRules, utcRules, stepRules}
-use Rattle.demands.specs.Demand1.{ReadingRefuses, TheLayoutRefuses, ScanningRefuses, WritingRefuses, WritingOneMoreRefuses, TheFirstRefusalEndsIt, TheRuleRefuses, TheNextSecondRefuses, CountingRefuses, TheSeasonShiftRefuses, UtcSecondsRefuse, TheStepRefuses, TheParameterByteRefuses, TheCalendarRefuses, ARefusedTelegramChangesNoByte, ARefusedOneMoreChangesNoByte, ARefusedClockComesBackUnchanged}
+use Rattle.demands.specs.Demand1.{ReadingRefuses, TheLayoutRefuses, ScanningRefuses, WritingRefuses, WritingOneMoreRefuses, TheFirstRefusalEndsIt, TheRuleRefuses, TheNextSecondRefuses, CountingRefuses, TheSeasonShiftRefuses, UtcSecondsRefuse, TheStepRefuses, TheParameterByteRefuses, TheParameterByteOfA6038Refuses, TheCalendarRefuses, ARefusedTelegramChangesNoByte, ARefusedOneMoreChangesNoByte, ARefusedClockComesBackUnchanged}
 use Rattle.demands.proofs.Refusing.{else-nothing, by-lowest, unless-by, tested, refuses, gives}
 use Rattle.demands.proofs.TableLengths.{found}
 use Rattle.demands.proofs.RulesHold.{record-rules, next-second-rules, reading-rules, writing-rules, count-rules, utc-rules, step-rules}
@@ -51,8 +53,8 @@ abbrev toEight : List ℕ
 toEight = 1 ∷ 2 ∷ 3 ∷ 4 ∷ 5 ∷ 6 ∷ 7 ∷ 8 ∷ []
 
 pub demand-1-reading : ReadingRefuses
-demand-1-reading control bytes =
-    refuses toEight (readOf control bytes) (readingRules control bytes) (reading-rules control bytes) (go (layoutOf (bodyOf control bytes)))
+demand-1-reading order control bytes =
+    refuses toEight (readIn order control bytes) (readingRules order control bytes) (reading-rules order control bytes) (go (layoutOf (bodyIn order control bytes)))
   where
     -- which numbers, and in which order, does not hang on what holds
     with-record : (rec : Record)
@@ -60,8 +62,8 @@ demand-1-reading control bytes =
     with-record (Dated layout status weekday date time) = refl
     with-record (TimeOnly layout time) = refl
 
-    go : (o : Outcome Layout) → tested toEight (1 givenWhen true ∷ rulesIn control bytes o) ≡ true
-    go (done layout) = with-record (carried layout (bodyOf control bytes))
+    go : (o : Outcome Layout) → tested toEight (1 givenWhen true ∷ rulesIn order control bytes o) ≡ true
+    go (done layout) = with-record (carried layout (bodyIn order control bytes))
     go (refused n) = refl
 
 -- one telegram written, and one more
@@ -71,6 +73,8 @@ inWriting = 5 ∷ 6 ∷ 7 ∷ 8 ∷ 12 ∷ 13 ∷ 14 ∷ []
 writing-tested : (choice : Choice) (rec : Record) (room : ℕ) → tested inWriting (writingRules choice rec room) ≡ true
 writing-tested (Named setting) (Dated layout status weekday date time) room = refl
 writing-tested (Named setting) (TimeOnly layout time) room = refl
+writing-tested (NamedIn setting order) (Dated layout status weekday date time) room = refl
+writing-tested (NamedIn setting order) (TimeOnly layout time) room = refl
 writing-tested Unnamed (Dated layout status weekday date time) room = refl
 writing-tested Unnamed (TimeOnly layout time) room = refl
 
@@ -205,6 +209,24 @@ demand-1-season-shift local daylight =
 pub demand-1-parameter : TheParameterByteRefuses
 unfolding byteFor
 demand-1-parameter setting = one-rule 16 (not (offered setting)) (byteOf (switchesFor setting))
+
+-- the four positions of switches 3 and 4
+listed : (byte : ℕ) → of-6038.parameterIn byte byFirst 16 givenWhen isOffOn byte ∷ []
+unfolding of-6038.parameterIn unless
+listed byte = go (switch 3 byte) (switch 4 byte)
+  where
+    go : (third fourth : Bool) → after (of-6038.parityAt third fourth) (λ parity. done (of-6038.settingWith byte parity)) byFirst 16 givenWhen (not third && fourth) ∷ []
+    go true true = refl
+    go true false = refl
+    go false true = refl
+    go false false = refl
+
+pub demand-1-parameter-of-a-6038 : TheParameterByteOfA6038Refuses
+unfolding of-6038.byteFor
+demand-1-parameter-of-a-6038 byte setting = (
+  by-lowest (of-6038.parameterIn byte) (16 givenWhen isOffOn byte ∷ []) refl (listed byte),
+  one-rule 16 (not (of-6038.offered setting)) (byteOf (of-6038.switchesFor setting)),
+)
 
 pub demand-1-calendar : TheCalendarRefuses
 unfolding dayNumber dateOf nextDay secondOfDay nextSecond timeRefusal dateRefusal

@@ -15,7 +15,8 @@ use Rattle.record.specs.declared.Record.{Record}
 use Rattle.record.specs.declared.Record.the-variants.{Dated, TimeOnly}
 use Rattle.layouts.specs.declared.Layout.{Layout}
 use Rattle.layouts.specs.Layouts.{placesOf, layoutOf}
-use Rattle.telegram.specs.Reading.{bodyOf, carried, readOf}
+use Rattle.trailer.specs.declared.Order.{Order}
+use Rattle.telegram.specs.Reading.{bodyIn, carried, readIn}
 use Rattle.telegram.proofs.Frames.{frame-is-framed}
 use Rattle.line.specs.declared.Reader.{Reader}
 use Rattle.line.specs.declared.Fed.{Fed}
@@ -50,21 +51,21 @@ among-more (first ∷ others) more n e = go (eqb n first) e (among-more others m
     go false e later = later e
 
 -- STX and ETX stand, so that 2 is not among what a telegram of the line is refused with
-abbrev framedRules : List ℕ → Outcome Layout → List Rule
-framedRules bytes (done layout) =
-    3 givenWhen not (every fixedHolds (placesOf layout) (bodyOf true bytes))
-    ∷ 4 givenWhen not (every decimalHolds (placesOf layout) (bodyOf true bytes))
-    ∷ 5 givenWhen not (every codeHolds (placesOf layout) (bodyOf true bytes))
-    ∷ recordRules (carried layout (bodyOf true bytes))
-framedRules bytes (refused n) = []
+abbrev framedRules : Order → List ℕ → Outcome Layout → List Rule
+framedRules order bytes (done layout) =
+    3 givenWhen not (every fixedHolds (placesOf layout) (bodyIn order true bytes))
+    ∷ 4 givenWhen not (every decimalHolds (placesOf layout) (bodyIn order true bytes))
+    ∷ 5 givenWhen not (every codeHolds (placesOf layout) (bodyIn order true bytes))
+    ∷ recordRules (carried layout (bodyIn order true bytes))
+framedRules order bytes (refused n) = []
 
 abbrev inFrame : List ℕ
 inFrame = 1 ∷ 3 ∷ 4 ∷ 5 ∷ 6 ∷ 7 ∷ 8 ∷ []
 
-judged : (body : List ℕ) → readOf true (2 ∷ body ++ 3 ∷ []) doneOr inFrame
-judged body =
-    refuses inFrame (readOf true bytes) (1 givenWhen wrong ∷ framedRules bytes o)
-    (reading-rules true bytes ∙ ap (λ n. unless n tt) (ap (λ later. 1 when wrong else later) (without-2 o)))
+judged : (order : Order) (body : List ℕ) → readIn order true (2 ∷ body ++ 3 ∷ []) doneOr inFrame
+judged order body =
+    refuses inFrame (readIn order true bytes) (1 givenWhen wrong ∷ framedRules order bytes o)
+    (reading-rules order true bytes ∙ ap (λ n. unless n tt) (ap (λ later. 1 when wrong else later) (without-2 o)))
     (go o)
     .1
   where
@@ -72,39 +73,39 @@ judged body =
     bytes = 2 ∷ body ++ 3 ∷ []
 
     o : Outcome Layout
-    o = layoutOf (bodyOf true bytes)
+    o = layoutOf (bodyIn order true bytes)
 
     wrong : Bool
     wrong = not (among (map (lengthOf true) sevenLayouts) (length bytes))
 
-    without-2 : (o : Outcome Layout) → firstOf (rulesIn true bytes o) ≡ firstOf (framedRules bytes o)
-    without-2 (done layout) = ap (λ t. 2 when not t else firstOf (framedRules bytes (done layout))) (frame-is-framed body)
+    without-2 : (o : Outcome Layout) → firstOf (rulesIn order true bytes o) ≡ firstOf (framedRules order bytes o)
+    without-2 (done layout) = ap (λ t. 2 when not t else firstOf (framedRules order bytes (done layout))) (frame-is-framed body)
     without-2 (refused n) = refl
 
     with-record : (rec : Record) → tested inFrame (1 givenWhen true ∷ 3 givenWhen true ∷ 4 givenWhen true ∷ 5 givenWhen true ∷ recordRules rec) ≡ true
     with-record (Dated layout status weekday date time) = refl
     with-record (TimeOnly layout time) = refl
 
-    go : (o : Outcome Layout) → tested inFrame (1 givenWhen true ∷ framedRules bytes o) ≡ true
-    go (done layout) = with-record (carried layout (bodyOf true bytes))
+    go : (o : Outcome Layout) → tested inFrame (1 givenWhen true ∷ framedRules order bytes o) ≡ true
+    go (done layout) = with-record (carried layout (bodyIn order true bytes))
     go (refused n) = refl
 
-byte-tells : (held : List ℕ) (byte : ℕ) → isStarted held ≡ true → Tells onTheLine (toldBy held byte)
-byte-tells [] byte started = tt
-byte-tells (first ∷ held) byte started = go (eqb byte etx) (eqb byte stx) (leb places (length (first ∷ held)))
+byte-tells : (order : Order) (held : List ℕ) (byte : ℕ) → isStarted held ≡ true → Tells onTheLine (toldBy order held byte)
+byte-tells order [] byte started = tt
+byte-tells order (first ∷ held) byte started = go (eqb byte etx) (eqb byte stx) (leb places (length (first ∷ held)))
   where
     judged-so : (outcome : Outcome Record) → outcome doneOr inFrame → outcome doneOr onTheLine
     judged-so (done rec) e = tt
     judged-so (refused n) e = among-more inFrame (9 ∷ 10 ∷ []) n e
 
-    whole : readOf true ((first ∷ held) ++ 3 ∷ []) doneOr inFrame
-    whole = subst⁻¹ (λ byte. readOf true (byte ∷ held ++ 3 ∷ []) doneOr inFrame) (eqb-true first 2 (both (eqb first 2) (allPlain held) started .0)) (judged held)
+    whole : readIn order true ((first ∷ held) ++ 3 ∷ []) doneOr inFrame
+    whole = subst⁻¹ (λ byte. readIn order true (byte ∷ held ++ 3 ∷ []) doneOr inFrame) (eqb-true first 2 (both (eqb first 2) (allPlain held) started .0)) (judged order held)
 
     go : (etx stx full : Bool)
         → Tells onTheLine
-        (cond etx (event (readOf true ((first ∷ held) ++ 3 ∷ [])) (length (first ∷ held) + 1))
+        (cond etx (event (readIn order true ((first ∷ held) ++ 3 ∷ [])) (length (first ∷ held) + 1))
         (cond stx (event (refused 9) (length (first ∷ held))) (cond full (event (refused 10) longest) nothing)))
-    go true stx full = judged-so (readOf true ((first ∷ held) ++ 3 ∷ [])) whole
+    go true stx full = judged-so (readIn order true ((first ∷ held) ++ 3 ∷ [])) whole
     go false true full = refl
     go false false true = refl
     go false false false = tt
@@ -112,7 +113,7 @@ byte-tells (first ∷ held) byte started = go (eqb byte etx) (eqb byte stx) (leb
 piece-tells : (line : Line) (piece : List ℕ) → isStarted (line .held) ≡ true → Tells onTheLine (feedOf line piece .told)
 piece-tells line [] started = tt
 piece-tells line (byte ∷ piece) started =
-    go (toldBy (line .held) byte) (byte-tells (line .held) byte started) (startOf line) (step line byte) (feedOf (step line byte) piece)
+    go (toldBy (line .order) (line .held) byte) (byte-tells (line .order) (line .held) byte started) (startOf line) (step line byte) (feedOf (step line byte) piece)
     (piece-tells (step line byte) piece (started-stays (line .held) byte started))
   where
     go : (told : Told) → Tells onTheLine told → (start : ℕ) (next : Line) (later : Feeding) → Tells onTheLine (later .told)

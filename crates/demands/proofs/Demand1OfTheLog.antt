@@ -9,6 +9,7 @@ use lib.ListN.{length, getD}
 use borrow.Author.Tests.{ltb-true, lt-ltb}
 use Rattle.refusals.specs.Refusals.{_when_, Outcome, done, refused, unless, after}
 use Rattle.telegram.specs.Reading.{readOf}
+use Rattle.trailer.specs.declared.Order.the-variants.{AsPrinted}
 use Rattle.log.specs.declared.verify.Verified.the-variants.{Bad}
 use Rattle.log.specs.Block.{slots}
 use Rattle.log.specs.Good.{countIn, telegramsOf, isGood}
@@ -62,8 +63,8 @@ demand-1-adding region telegram =
     let read = readOf true telegram in
     let place : placeIn region byFirst freeRules region =
     whole-by region (freeBehindUsed 0) (21 givenWhen not (hasFree blocks) ∷ []) (free-by 0 blocks) in (
-      after-by read (λ rec. placeIn region) (readingRules true telegram) (freeRules region) (reading-rules true telegram) (λ rec is. place),
-      after-or read (λ rec. placeIn region) _ (19 ∷ 21 ∷ []) (demand-1-reading true telegram .1)
+      after-by read (λ rec. placeIn region) (readingRules AsPrinted true telegram) (freeRules region) (reading-rules AsPrinted true telegram) (λ rec is. place),
+      after-or read (λ rec. placeIn region) _ (19 ∷ 21 ∷ []) (demand-1-reading AsPrinted true telegram .1)
           (λ rec. done-or (19 ∷ 21 ∷ []) (placeIn region) (freeRules region) place refl),
     )
 

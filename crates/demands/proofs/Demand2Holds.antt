@@ -1,5 +1,5 @@
 -- Demand 2 holds. Assumes nothing.
-use mathlib.Core.Path.{_≡_, refl, ap, sym, _∙_}
+use mathlib.Core.Path.{_≡_, refl, ap, ap₂, sym, _∙_}
 use mathlib.Core.Bool.{Bool, true, false, cond}
 use mathlib.Core.List.{List}
 use Prim.Native.Nat.{ℕ, zero, suc, _+_, _%_, _≤_}
@@ -22,36 +22,37 @@ use Rattle.record.proofs.NextLaws.{next-no-sixty}
 use Rattle.record.proofs.UtcLaws.{sixty-second, plain-time}
 use Rattle.record.proofs.FollowingLaws.{next-is-later}
 use Rattle.clock.proofs.RunLaws.{step-makes-no-sixty}
+use Rattle.trailer.specs.declared.Order.{Order}
 use Rattle.telegram.specs.declared.write.Choice.{Choice}
 use Rattle.telegram.specs.declared.write.Choice.the-variants.{Unnamed}
-use Rattle.telegram.specs.Reading.{readOf}
-use Rattle.telegram.specs.Writing.{bodyBytes, telegramOf, as6021, recordToWrite, telegramFor, written}
+use Rattle.telegram.specs.Reading.{readIn}
+use Rattle.telegram.specs.Writing.{bodyBytes, telegramIn, as6021, recordToWrite, telegramFor, written}
 use Rattle.telegram.proofs.WriteLaws.{telegram-made, was-made}
-use Rattle.telegram.proofs.BackAndForth.{written-reads-back, accepted-is-written}
+use Rattle.telegram.proofs.InOrder.{reads-back, accepted}
 use Rattle.telegram.proofs.ReadsBack.{write-reads-back}
 use Rattle.demands.specs.Demand2.{Good, plain, advanced, ATelegramIsItsRow, ATelegramHasTheTablesLength, WrittenByTheTables, ReadByTheTables, TheReaderAcceptsExactlyWhatTheWriterCanMake, WhatIsWrittenReadsBack, WhatIsWrittenWithoutASettingReadsBack, WrittenWithAdvanceItReadsBackAsTheNextSecond, TheNextSecondIsOneLater, TheNextSecondOfADayIsOneLater, NeitherMakesASixty}
 use Rattle.demands.proofs.TableLengths.{telegram-length}
 
 pub demand-2-is-its-row : ATelegramIsItsRow
 unfolding bodyBytes render
-demand-2-is-its-row rec = (refl, refl)
+demand-2-is-its-row order rec = (refl, refl)
 
 pub demand-2-lengths : ATelegramHasTheTablesLength
-demand-2-lengths control rec = telegram-length control rec
+demand-2-lengths order control rec = telegram-length order control rec
 
-written-so : (control : Bool) (rec : Record) (n : ℕ) → Good rec → length (telegramOf control rec) ≤ n
-    → written (plain control) rec n ≡ done (telegramOf control rec)
-written-so control rec n good fits =
-    ap (within n) (telegram-made (plain control) rec control rec (does rec good) refl) ∙ within-fits n (telegramOf control rec) fits
+written-so : (order : Order) (control : Bool) (rec : Record) (n : ℕ) → Good rec → length (telegramIn order control rec) ≤ n
+    → written (plain order control) rec n ≡ done (telegramIn order control rec)
+written-so order control rec n good fits =
+    ap (within n) (telegram-made (plain order control) rec order control rec (does rec good) refl refl) ∙ within-fits n (telegramIn order control rec) fits
 
 pub demand-2-written-by-the-tables : WrittenByTheTables
-demand-2-written-by-the-tables control rec buffer good fits =
-    let so = written-so control rec (length buffer) good fits in (so, ap (λ w. laidIn w buffer) so)
+demand-2-written-by-the-tables order control rec buffer good fits =
+    let so = written-so order control rec (length buffer) good fits in (so, ap (λ w. laidIn w buffer) so)
 
 pub demand-2-read-by-the-tables : ReadByTheTables
-demand-2-read-by-the-tables control bytes rec = (
-  λ read. let made = accepted-is-written control bytes rec read in (made .is-good, made .is-written),
-  λ fits. ap (readOf control) (sym (fits .1)) ∙ written-reads-back rec (fits .0) control,
+demand-2-read-by-the-tables order control bytes rec = (
+  λ read. let made = accepted order control bytes rec read in (made .is-good, made .is-written),
+  λ fits. ap (readIn order control) (sym (fits .1)) ∙ reads-back order control rec (fits .0),
 )
 
 -- what is written was asked for: the record that the choice names is not refused
@@ -61,18 +62,19 @@ was-asked choice rec room bytes e =
     let made = was-made choice rec bytes (within-done room (telegramFor choice rec) bytes e .0) in (made .0, made .1)
 
 pub demand-2-accepts-exactly : TheReaderAcceptsExactlyWhatTheWriterCanMake
-demand-2-accepts-exactly control bytes = (
+demand-2-accepts-exactly order control bytes = (
   λ read.
-      let made = accepted-is-written control bytes (read .0) (read .1) in (
-        plain control,
+      let made = accepted order control bytes (read .0) (read .1) in (
+        plain order control,
         read .0,
-        length (telegramOf control (read .0)),
+        length (telegramIn order control (read .0)),
         refl,
-        written-so control (read .0) _ (made .is-good) (omega arith) ∙ ap done (made .is-written),
+        refl,
+        written-so order control (read .0) _ (made .is-good) (omega arith) ∙ ap done (made .is-written),
       ),
   λ made.
-      let asked = was-asked (made .0) (made .1) (made .2) bytes (made .4) in
-      (asked .0, ap (λ c. readOf c bytes) (sym (made .3)) ∙ write-reads-back (made .0) (made .1) (made .2) bytes (made .4) ∙ asked .1),
+      let asked = was-asked (made .0) (made .1) (made .2) bytes (made .5) in
+      (asked .0, ap₂ (λ o c. readIn o c bytes) (sym (made .3)) (sym (made .4)) ∙ write-reads-back (made .0) (made .1) (made .2) bytes (made .5) ∙ asked .1),
 )
 
 -- a record that is judged good is the record itself
@@ -82,9 +84,9 @@ judged-itself zero rec same e = refl
 judged-itself (suc n) rec same e = let z : _≡_ {A = ℕ} 0 1 = cc in absurd (omega arith)
 
 pub demand-2-reads-back : WhatIsWrittenReadsBack
-demand-2-reads-back control rec room bytes e =
-    let asked = was-asked (plain control) rec room bytes e in
-    write-reads-back (plain control) rec room bytes e ∙ judged-itself (refusalOf rec) rec (asked .0) (asked .1)
+demand-2-reads-back order control rec room bytes e =
+    let asked = was-asked (plain order control) rec room bytes e in
+    write-reads-back (plain order control) rec room bytes e ∙ judged-itself (refusalOf rec) rec (asked .0) (asked .1)
 
 -- and a 6021 is made of the record itself
 pub made-itself : (n : ℕ) (rec same : Record) → after (unless n rec) as6021 ≡ done same → after (unless n rec) as6021 ≡ as6021 rec
@@ -98,7 +100,7 @@ demand-2-unnamed-reads-back rec room bytes e =
     write-reads-back Unnamed rec room bytes e ∙ made-itself (refusalOf rec) rec (asked .0) (asked .1)
 
 pub demand-2-next-second : WrittenWithAdvanceItReadsBackAsTheNextSecond
-demand-2-next-second control rec room bytes e = write-reads-back (advanced control) rec room bytes e
+demand-2-next-second order control rec room bytes e = write-reads-back (advanced order control) rec room bytes e
 
 pub demand-2-one-later : TheNextSecondIsOneLater
 demand-2-one-later = next-is-later
@@ -126,10 +128,10 @@ demand-2-one-later-in-a-day layout time none =
     later sixty is false f = rw (← here sixty is) (omega (arith, f .second, seconds-within (timeAfter (upTo59 time)) (f .good)))
 
 -- where there is no next second, second advance writes nothing
-pub second-refused-is-not-advanced : (control : Bool) (rec : Record) (room : ℕ) → nextSecondOf rec ≡ refused 12 → written (advanced control) rec room ≡ refused 12
+pub second-refused-is-not-advanced : (order : Order) (control : Bool) (rec : Record) (room : ℕ) → nextSecondOf rec ≡ refused 12 → written (advanced order control) rec room ≡ refused 12
 unfolding telegramFor
-second-refused-is-not-advanced control rec room e = rw e (within-refused room 12)
+second-refused-is-not-advanced order control rec room e = rw e (within-refused room 12)
 
 pub neither-makes-a-sixty : NeitherMakesASixty
 neither-makes-a-sixty =
-    ((λ control rec same room bytes e read. next-no-sixty rec same (sym (demand-2-next-second control rec room bytes e) ∙ read)), step-makes-no-sixty)
+    ((λ order control rec same room bytes e read. next-no-sixty rec same (sym (demand-2-next-second order control rec room bytes e) ∙ read)), step-makes-no-sixty)

@@ -6,7 +6,7 @@ use Prim.Native.Nat.{ℕ}
 use borrow.Author.Tests.{eq-eqb}
 use Rattle.record.specs.Rule.{refusalOf}
 use Rattle.line.specs.declared.Reader.{Reader}
-use Rattle.line.specs.Line.{freshReader, freshLine, feedReader}
+use Rattle.line.specs.Line.{freshIn, freshLine, feedReader}
 use Rattle.line.specs.Cuts.{Calls, feeding}
 use Rattle.line.specs.Pieces.{usingUp}
 use Rattle.line.specs.SentLine.{Sent, allGood}
@@ -23,18 +23,18 @@ all-good (sent ∷ others) behind good clear =
 
 -- by any call that splits what a piece tells
 hands-back : (call : Reader → List ℕ → Calls) → Splitting call → HandsBack call
-hands-back call splitting sents behind good clear served cut used =
+hands-back call splitting order sents behind good clear served cut used =
     let fine = all-good sents behind good clear in (
-      exactly-those call splitting sents behind fine served cut used,
-      true-stray call splitting sents behind fine served cut used,
-      end-then call splitting sents behind fine served cut used,
+      exactly-those call splitting order sents behind fine served cut used,
+      true-stray call splitting order sents behind fine served cut used,
+      end-then call splitting order sents behind fine served cut used,
     )
 
 pub demand-3-hands-back-that-list : TheReaderHandsBackThatList
 demand-3-hands-back-that-list = hands-back (feeding feedReader) feeding-splits
 
 pub demand-3-every-cut : EveryCutCanBeUsedUp
-demand-3-every-cut pieces = a-feeding-is (feeding feedReader) feeding-splits pieces freshLine freshReader good-fresh refl
+demand-3-every-cut order pieces = a-feeding-is (feeding feedReader) feeding-splits pieces (freshLine order) (freshIn order) (good-fresh order) refl
 
 pub demand-3-using-up : UsingUpIsAFeedingToo
 demand-3-using-up = (using-up-is-such-a-feeding, using-up-tells-the-line .1)
@@ -43,5 +43,5 @@ pub demand-3-using-up-hands-back : UsingUpHandsBackThatList
 demand-3-using-up-hands-back = hands-back usingUp using-up-splits
 
 pub demand-3-never-the-same-line : TwoListsThatDifferNeverMakeTheSameLine
-demand-3-never-the-same-line a b behind-a behind-b good-a clear-a good-b clear-b differ same =
-    differ (same-line-same-records a b behind-a behind-b (all-good a behind-a good-a clear-a) (all-good b behind-b good-b clear-b) same)
+demand-3-never-the-same-line order a b behind-a behind-b good-a clear-a good-b clear-b differ same =
+    differ (same-line-same-records order a b behind-a behind-b (all-good a behind-a good-a clear-a) (all-good b behind-b good-b clear-b) same)

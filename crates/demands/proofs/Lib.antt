@@ -13,6 +13,7 @@ pub mod BoundaryHolds
 pub mod SecondSixtyHolds
 pub mod TheLogHolds
 pub mod UnnamedWritesHold
+pub mod The6038Holds
 pub mod ShutOut
 pub mod ShutOutOfReplies
 pub mod ShutOutOfTheLog

@@ -1,12 +1,15 @@
 -- All that is printed holds, by the theorem of each table. Assumes nothing.
 use Rattle.layouts.proofs.AsPrintedHolds as layouts
 use Rattle.telegram.proofs.AsPrintedHolds as telegram
+use Rattle.trailer.proofs.AsPrintedHolds as trailer
+use Rattle.telegram.proofs.OrderAsPrintedHolds.{orders-as-printed}
 use Rattle.record.proofs.AsPrintedHolds as records
 use Rattle.record.proofs.LastSixtyHolds.{last-as-printed}
 use Rattle.calendar.proofs.AsPrintedHolds as calendar
 use Rattle.clock.proofs.AsPrintedHolds as clock
 use Rattle.clock.proofs.RunLaws.{last-as-printed as last-step-as-printed}
 use Rattle.board.proofs.AsPrintedHolds as board
+use Rattle.board.proofs.AsPrinted6038Holds.{of-6038-as-printed}
 use Rattle.listing.proofs.AsPrintedHolds as listing
 use Rattle.pages.proofs.AsPrintedHolds as pages
 use Rattle.leitch.proofs.AsPrintedHolds as leitch
@@ -19,4 +22,4 @@ use Rattle.demands.proofs.BoundaryHolds.{boundary-table}
 
 pub all-is-as-printed : AllIsAsPrinted
 all-is-as-printed =
-    (layouts.as-printed, records.as-printed, calendar.month-starts-as-printed, calendar.calendar-as-printed, clock.as-printed, board.of-6036-as-printed, listing.listing-as-printed, pages.as-printed, boundary-table, calendar.days-of-the-year-as-printed, leitch.as-printed, every-as-printed, requests.requests-as-printed, records.sixties-as-printed, last-as-printed, last-step-as-printed, log.log-as-printed, listing.log-as-printed, logpages.as-printed, telegram.as-printed)
+    (layouts.as-printed, records.as-printed, calendar.month-starts-as-printed, calendar.calendar-as-printed, clock.as-printed, board.of-6036-as-printed, listing.listing-as-printed, pages.as-printed, boundary-table, calendar.days-of-the-year-as-printed, leitch.as-printed, every-as-printed, requests.requests-as-printed, records.sixties-as-printed, last-as-printed, last-step-as-printed, log.log-as-printed, listing.log-as-printed, logpages.as-printed, telegram.as-printed, of-6038-as-printed, trailer.as-printed, orders-as-printed)

@@ -24,17 +24,20 @@ use Rattle.record.specs.Utc.{noneFollows, countOf, utcSeconds}
 use Rattle.record.proofs.UtcLaws.{time-count, count-lowest-first, utc-lowest-first}
 use Rattle.layouts.specs.declared.Layout.{Layout}
 use Rattle.layouts.specs.Layouts.{placesOf, ownLayout, layoutOf}
+use Rattle.trailer.specs.declared.Order.{Order}
+use Rattle.trailer.specs.declared.Order.the-variants.{AsPrinted}
+use Rattle.telegram.specs.declared.write.Setting.{Setting}
 use Rattle.telegram.specs.declared.write.Choice.{Choice}
-use Rattle.telegram.specs.declared.write.Choice.the-variants.{Named, Unnamed}
-use Rattle.telegram.specs.Reading.{bodyOf, framed, carried, bodyRefusal, readOf}
-use Rattle.telegram.specs.Writing.{telegramOf, as6021, judgedOf, recordToWrite, controlOf, telegramFor, written}
+use Rattle.telegram.specs.declared.write.Choice.the-variants.{Named, NamedIn, Unnamed}
+use Rattle.telegram.specs.Reading.{bodyIn, framed, carried, bodyRefusal, readIn}
+use Rattle.telegram.specs.Writing.{telegramIn, as6021, judgedOf, recordBy, recordToWrite, controlOf, orderOf, telegramFor, written}
 use Rattle.clock.specs.declared.Clock.{Clock}
 use Rattle.clock.specs.Stepping.{stepOf}
 use Rattle.clock.specs.Answers.{stepAnswer}
 use Rattle.clock.proofs.StepLaws.{lowest-first}
 use Rattle.demands.specs.Lengths.{sevenLayouts, lengthOf}
 use Rattle.demands.specs.Numbers.{Rule, _givenWhen_, among, firstOf, _byFirst_}
-use Rattle.demands.specs.Rules.{recordRules, rulesIn, readingRules, nextSecondRules, writingRules, countRules, isBeforeUtc, utcRules, stepRules}
+use Rattle.demands.specs.Rules.{recordRules, rulesIn, readingRules, nextSecondRules, settingRules, writingRules, countRules, isBeforeUtc, utcRules, stepRules}
 use Rattle.demands.proofs.TableLengths.{telegram-length, found, length-in-table}
 use Rattle.demands.proofs.Refusing.{else-nothing, first-of-both, unless-by, then-by}
 
@@ -60,35 +63,35 @@ unfolding nextSecondOf
 next-second-rules rec = unless-by _ (recordAfter rec) (nextSecondRules rec) (next-second-number rec)
 
 -- reading
-in-layout : (control : Bool) (bytes : List ℕ) (layout : Layout)
-    → unless (2 when (control && not (framed bytes)) else bodyRefusal layout (bodyOf control bytes)) (carried layout (bodyOf control bytes))
-    byFirst rulesIn control bytes (done layout)
+in-layout : (order : Order) (control : Bool) (bytes : List ℕ) (layout : Layout)
+    → unless (2 when (control && not (framed bytes)) else bodyRefusal layout (bodyIn order control bytes)) (carried layout (bodyIn order control bytes))
+    byFirst rulesIn order control bytes (done layout)
 unfolding bodyRefusal
-in-layout control bytes layout =
-    let body = bodyOf control bytes in
+in-layout order control bytes layout =
+    let body = bodyIn order control bytes in
     let fixed = not (every fixedHolds (placesOf layout) body) in
     let decimals = not (every decimalHolds (placesOf layout) body) in
     let codes = not (every codeHolds (placesOf layout) body) in
-    unless-by _ (carried layout body) (rulesIn control bytes (done layout))
+    unless-by _ (carried layout body) (rulesIn order control bytes (done layout))
     (ap (λ n. 2 when (control && not (framed bytes)) else n)
     (sym (else-assoc (3 when fixed) (4 when decimals else 5 when codes) (refusalOf (carried layout body)))
     ∙ ap (λ n. 3 when fixed else n) (sym (else-assoc (4 when decimals) (5 when codes) (refusalOf (carried layout body))))
     ∙ ap (λ n. 3 when fixed else 4 when decimals else 5 when codes else n) (record-rules (carried layout body))))
 
-pub reading-rules : (control : Bool) (bytes : List ℕ) → readOf control bytes byFirst readingRules control bytes
-unfolding readOf unless
-reading-rules control bytes =
+pub reading-rules : (order : Order) (control : Bool) (bytes : List ℕ) → readIn order control bytes byFirst readingRules order control bytes
+unfolding readIn unless
+reading-rules order control bytes =
     go (λ layout. unless (2 when (control && not (framed bytes)) else bodyRefusal layout body) (carried layout body)) (layoutOf body)
     (not (among (map (lengthOf control) sevenLayouts) (length bytes)))
-    (found body ∙ ap (λ t. unless (firstOf (1 givenWhen not t ∷ [])) tt) (length-in-table control bytes))
-    (in-layout control bytes)
+    (found body ∙ ap (λ t. unless (firstOf (1 givenWhen not t ∷ [])) tt) (length-in-table order control bytes))
+    (in-layout order control bytes)
   where
     body : List ℕ
-    body = bodyOf control bytes
+    body = bodyIn order control bytes
 
     go : (next : Layout → Outcome Record) (o : Outcome Layout) (wrong : Bool) → o byFirst 1 givenWhen wrong ∷ []
-        → ((layout : Layout) → next layout byFirst rulesIn control bytes (done layout))
-        → after o next byFirst 1 givenWhen wrong ∷ rulesIn control bytes o
+        → ((layout : Layout) → next layout byFirst rulesIn order control bytes (done layout))
+        → after o next byFirst 1 givenWhen wrong ∷ rulesIn order control bytes o
     go next (done layout) false e on = on layout
     go next (done layout) true e on = let z : _≡_ {A = ℕ} 0 1 = cc in absurd (omega arith)
     go next (refused n) wrong e on = e
@@ -104,17 +107,17 @@ next-layout (Dated layout status weekday date time) = go (isLastSecond (upTo59 t
     go false = refl
 next-layout (TimeOnly layout time) = refl
 
-in-room : (control : Bool) (rec : Record) (room size : ℕ) → length (telegramOf control rec) ≡ size
-    → within room (done (telegramOf control rec)) byFirst 13 givenWhen ltb room size ∷ []
-in-room control rec room size e =
-    ap (λ o. after o (λ v. done tt)) (within-unless room (telegramOf control rec))
-    ∙ unless-by _ (telegramOf control rec) (13 givenWhen ltb room size ∷ []) (ap (λ n. 13 when ltb room n) e ∙ sym (else-nothing (13 when ltb room size)))
+in-room : (order : Order) (control : Bool) (rec : Record) (room size : ℕ) → length (telegramIn order control rec) ≡ size
+    → within room (done (telegramIn order control rec)) byFirst 13 givenWhen ltb room size ∷ []
+in-room order control rec room size e =
+    ap (λ o. after o (λ v. done tt)) (within-unless room (telegramIn order control rec))
+    ∙ unless-by _ (telegramIn order control rec) (13 givenWhen ltb room size ∷ []) (ap (λ n. 13 when ltb room n) e ∙ sym (else-nothing (13 when ltb room size)))
 
 unnamed : (rec : Record) (room : ℕ)
-    → after (as6021 rec) (λ r. within room (done (telegramOf true r))) byFirst 13 givenWhen (carriesDate rec && ltb room 18) ∷ 14 givenWhen not (carriesDate rec) ∷ []
+    → after (as6021 rec) (λ r. within room (done (telegramIn AsPrinted true r))) byFirst 13 givenWhen (carriesDate rec && ltb room 18) ∷ 14 givenWhen not (carriesDate rec) ∷ []
 unfolding unless
 unnamed (Dated layout status weekday date time) room =
-    in-room true (Dated L6021 status weekday date time) room 18 (telegram-length true (Dated L6021 status weekday date time))
+    in-room AsPrinted true (Dated L6021 status weekday date time) room 18 (telegram-length AsPrinted true (Dated L6021 status weekday date time))
 unnamed (TimeOnly layout time) room = refl
 
 -- one thing after another, and another after it
@@ -124,18 +127,20 @@ after-both (refused n) f g = refl
 
 -- a telegram that is made is held to the room
 written-so : (choice : Choice) (rec : Record) (room : ℕ)
-    → written choice rec room ≡ after (recordToWrite choice rec) (λ r. within room (done (telegramOf (controlOf choice) r)))
+    → written choice rec room ≡ after (recordToWrite choice rec) (λ r. within room (done (telegramIn (orderOf choice) (controlOf choice) r)))
 unfolding telegramFor
 written-so choice rec room = go (recordToWrite choice rec)
   where
     go : (o : Outcome Record)
-        → within room (after o (λ r. done (telegramOf (controlOf choice) r))) ≡ after o (λ r. within room (done (telegramOf (controlOf choice) r)))
+        → within room (after o (λ r. done (telegramIn (orderOf choice) (controlOf choice) r))) ≡ after o (λ r. within room (done (telegramIn (orderOf choice) (controlOf choice) r)))
     go (done r) = refl
     go (refused n) = within-refused room n
 
-pub writing-rules : (choice : Choice) (rec : Record) (room : ℕ) → written choice rec room byFirst writingRules choice rec room
+-- a setting in an order
+setting-rules : (order : Order) (setting : Setting) (rec : Record) (room : ℕ)
+    → after (recordBy setting rec) (λ r. within room (done (telegramIn order (setting .control) r))) byFirst settingRules setting rec room
 unfolding nextSecondOf
-writing-rules (Named setting) rec room = ap (λ o. after o (λ v. done tt)) (written-so (Named setting) rec room) ∙ go (setting .advance)
+setting-rules order setting rec room = go (setting .advance)
   where
     control : Bool
     control = setting .control
@@ -144,19 +149,25 @@ writing-rules (Named setting) rec room = ap (λ o. after o (λ v. done tt)) (wri
     short = 13 givenWhen ltb room (lengthOf (setting .control) (ownLayout rec)) ∷ []
 
     lays : Record → Outcome (List ℕ)
-    lays r = within room (done (telegramOf (setting .control) r))
+    lays r = within room (done (telegramIn order (setting .control) r))
 
     go : (advance : Bool) → after (cond advance (nextSecondOf rec) (judgedOf rec)) lays byFirst recordRules rec ++ 12 givenWhen (advance && isLastOfCalendar rec) ∷ short
     go true =
         then-by (refusalOf rec else 12 when isLastOfCalendar rec) (recordAfter rec) lays (nextSecondRules rec) short (next-second-number rec)
-        (in-room control (recordAfter rec) room _ (telegram-length control (recordAfter rec) ∙ ap (lengthOf control) (next-layout rec)))
+        (in-room order control (recordAfter rec) room _ (telegram-length order control (recordAfter rec) ∙ ap (lengthOf control) (next-layout rec)))
         ∙ ap (λ rules. unless (firstOf rules) tt) (append-assoc (recordRules rec) (12 givenWhen isLastOfCalendar rec ∷ []) short)
     go false =
         then-by (refusalOf rec) rec lays (recordRules rec) (12 givenWhen false ∷ short) (record-rules rec)
-        (in-room control rec room _ (telegram-length control rec))
+        (in-room order control rec room _ (telegram-length order control rec))
+
+pub writing-rules : (choice : Choice) (rec : Record) (room : ℕ) → written choice rec room byFirst writingRules choice rec room
+writing-rules (Named setting) rec room =
+    ap (λ o. after o (λ v. done tt)) (written-so (Named setting) rec room) ∙ setting-rules AsPrinted setting rec room
+writing-rules (NamedIn setting order) rec room =
+    ap (λ o. after o (λ v. done tt)) (written-so (NamedIn setting order) rec room) ∙ setting-rules order setting rec room
 writing-rules Unnamed rec room =
-    ap (λ o. after o (λ v. done tt)) (written-so Unnamed rec room ∙ after-both (judgedOf rec) as6021 (λ r. within room (done (telegramOf true r))))
-    ∙ then-by (refusalOf rec) rec (λ good. after (as6021 good) (λ r. within room (done (telegramOf true r)))) (recordRules rec) _ (record-rules rec) (unnamed rec room)
+    ap (λ o. after o (λ v. done tt)) (written-so Unnamed rec room ∙ after-both (judgedOf rec) as6021 (λ r. within room (done (telegramIn AsPrinted true r))))
+    ∙ then-by (refusalOf rec) rec (λ good. after (as6021 good) (λ r. within room (done (telegramIn AsPrinted true r)))) (recordRules rec) _ (record-rules rec) (unnamed rec room)
 
 -- a count of seconds, UTC seconds and the station clock
 no-date : (wrong outside : Bool) → outside ≡ false

@@ -10,7 +10,7 @@ use Rattle.record.specs.Sixty.{sixtyBehind59, takesSixty}
 use Rattle.record.specs.Rule.{plainUtc, tableCanSay, statusAllowed, weekdayAllowed, weekdayAgrees, timeAllowed, timeAloneAllowed, timeAloneRefusal, datedRefusal}
 use Rattle.layouts.specs.Layouts.{placesOf, layoutOf}
 use Rattle.layouts.specs.Coding.{statusIn6021, statusIn5500}
-use Rattle.telegram.specs.Reading.{carried, bodyRefusal, readOf}
+use Rattle.telegram.specs.Reading.{carried, bodyRefusal, readIn}
 use Rattle.record.proofs.SixtyLaws.{fields-say-the-same}
 use Rattle.record.proofs.FollowingLaws.{accepted-exactly, sixty-goes-to-00, same-with-59-decides, sixty-shares, one-without-follower, no-follower-no-number, counts-in-calendar}
 use Rattle.record.proofs.LastSixtyHolds.{last-is-good}
@@ -20,7 +20,7 @@ use Rattle.demands.specs.SecondSixty.{TheSixtyTelegramsAreRead, LeitchAn
 use Rattle.demands.proofs.Demand2Holds.{second-refused-is-not-advanced, neither-makes-a-sixty}
 
 sixty-telegrams : TheSixtyTelegramsAreRead
-unfolding unless momentOf sixtyBehind59 takesSixty dayNumber secondOfDay dateRefusal timeRefusal isDecimal isCapital codeValue isLeap monthLength monthInRange dateInRange dayExists monthStart dayOf timeInRange timeAllowed timeAloneAllowed timeAloneRefusal secondsOf plainUtc tableCanSay statusAllowed weekdayAllowed weekdayAgrees datedRefusal seasonShift toUtc placesOf layoutOf statusIn6021 statusIn5500 carried bodyRefusal readOf seek monthHolding dateAt
+unfolding unless momentOf sixtyBehind59 takesSixty dayNumber secondOfDay dateRefusal timeRefusal isDecimal isCapital codeValue isLeap monthLength monthInRange dateInRange dayExists monthStart dayOf timeInRange timeAllowed timeAloneAllowed timeAloneRefusal secondsOf plainUtc tableCanSay statusAllowed weekdayAllowed weekdayAgrees datedRefusal seasonShift toUtc placesOf layoutOf statusIn6021 statusIn5500 carried bodyRefusal readIn seek monthHolding dateAt
 sixty-telegrams =
     ((refl, refl), ((refl, refl), ((refl, refl), ((refl, refl), ((refl, refl), ((refl, refl), ((refl, refl), ((refl, refl), ((refl, refl), ((refl, refl), ((refl, refl), ((refl, refl), ((refl, refl), ((refl, refl), ((refl, refl), tt)))))))))))))))
 
@@ -28,8 +28,8 @@ leitch-at-59 : LeitchAnswersStayAt59
 leitch-at-59 reply none = time-good reply (good reply none) .to-second
 
 last-not-advanced : TheLastSixtyIsNotAdvanced
-last-not-advanced control layout status room marked fine =
-    second-refused-is-not-advanced control _ room (last-is-good layout status marked fine .1)
+last-not-advanced order control layout status room marked fine =
+    second-refused-is-not-advanced order control _ room (last-is-good layout status marked fine .1)
 
 pub second-sixty : SecondSixtyIsAsAskedFor
 second-sixty =

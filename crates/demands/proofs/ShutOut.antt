@@ -14,13 +14,14 @@ use Rattle.record.specs.declared.Record.the-variants.{Dated, TimeOnly}
 use Rattle.record.specs.declared.RecordAnswer.the-variants as answer
 use Rattle.record.specs.Rule.{timeAloneAllowed, timeAloneRefusal, refusalOf}
 use Rattle.layouts.specs.Layouts.{placesOf, layoutOf}
-use Rattle.telegram.specs.Reading.{carried, bodyRefusal, readOf}
+use Rattle.trailer.specs.declared.Order.the-variants.{AsPrinted}
+use Rattle.telegram.specs.Reading.{carried, bodyRefusal, readIn}
 use Rattle.telegram.specs.Writing.{bodyBytes, telegramOf}
 use Rattle.line.specs.declared.Reader.{Reader}
 use Rattle.line.specs.declared.Fed.{Fed}
 use Rattle.line.specs.declared.Heard.{Heard}
 use Rattle.line.specs.declared.Heard.the-variants.{Nothing, Event, Refused}
-use Rattle.line.specs.Line.{readerOf, freshReader, wellFormed, feedReader}
+use Rattle.line.specs.Line.{lineWith, readerOf, freshReader, wellFormed, feedReader}
 use Rattle.line.specs.Cuts.{heardThen, feeding, Served, AllUsedUp}
 use Rattle.line.specs.SentLine.{Sent, bytesSent, eventsSent}
 use Rattle.demands.specs.Demand2.{WritesByTheTables, ReadsByTheTables}
@@ -46,10 +47,10 @@ unfolding bodyBytes placesOf render codeCharacter
 written-so = refl
 
 abbrev heard-it : Fed
-heard-it = record { reader = readerOf (record { held = []; fed = 10; stray = 0 }); taken = 10; heard = Event (answer.Good early) 0 10 }
+heard-it = record { reader = readerOf (lineWith [] 10 0 AsPrinted); taken = 10; heard = Event (answer.Good early) 0 10 }
 
 heard-so : feedReader freshReader its-bytes ≡ heard-it
-unfolding unless isDecimal isCapital codeValue timeInRange timeAloneAllowed timeAloneRefusal placesOf layoutOf carried bodyRefusal readOf feedReader wellFormed
+unfolding unless isDecimal isCapital codeValue timeInRange timeAloneAllowed timeAloneRefusal placesOf layoutOf carried bodyRefusal readIn feedReader wellFormed
 heard-so = refl
 
 -- the demand, of that telegram alone in one piece, for any reader that takes it whole
@@ -59,10 +60,10 @@ sent = record { before = []; rec = early } ∷ []
 abbrev in-one : List Served
 in-one = record { piece = its-bytes; times = 1 } ∷ []
 
-line-so : its-bytes ≡ bytesSent sent []
+line-so : its-bytes ≡ bytesSent AsPrinted sent []
 line-so = sym (ap (λ bytes. bytes ++ []) written-so)
 
-events-so : eventsSent 0 sent ≡ Event (answer.Good early) 0 10 ∷ []
+events-so : eventsSent AsPrinted 0 sent ≡ Event (answer.Good early) 0 10 ∷ []
 events-so = λ i. Event (answer.Good early) 0 (length (written-so i)) ∷ []
 
 module _ (feed : Reader → List ℕ → Fed) (fed : Fed) (is : feed freshReader its-bytes ≡ fed) (all : fed .taken ≡ 10) (demand : HandsBackThatList feed) where
@@ -72,11 +73,11 @@ module _ (feed : Reader → List ℕ → Fed) (fed : Fed) (is : feed freshReader
   hears : (heardThen (fed .heard) [] ++ []) ++ [] ≡ Event (answer.Good early) 0 10 ∷ []
   hears =
       ap (λ f. (heardThen (f .heard) [] ++ []) ++ []) (sym is)
-      ∙ demand sent [] (is-good, tt) (refl, refl) in-one line-so used .0
+      ∙ demand AsPrinted sent [] (is-good, tt) (refl, refl) in-one line-so used .0
       ∙ events-so
 
   counts : fed .reader .stray ≡ 0
-  counts = ap (λ f. f .reader .stray) (sym is) ∙ demand sent [] (is-good, tt) (refl, refl) in-one line-so used .1
+  counts = ap (λ f. f .reader .stray) (sym is) ∙ demand AsPrinted sent [] (is-good, tt) (refl, refl) in-one line-so used .1
 
 -- what tells one answer from another: the hour of a first event that is a time-only record, or 24
 abbrev hourIn : Record → ℕ
@@ -108,7 +109,7 @@ refusing-line-is-shut-out demand =
 
 pub refusing-reader-is-shut-out : ReadsByTheTables refusingReader → ⊥
 refusing-reader-is-shut-out demand =
-    let told : _≡_ {A = ℕ} 0 1 = ap isDone (demand true its-bytes early .1 (is-good, written-so)) in
+    let told : _≡_ {A = ℕ} 0 1 = ap isDone (demand AsPrinted true its-bytes early .1 (is-good, written-so)) in
     omega arith
 
 -- "one that returns one fixed record (2 and 3)"
@@ -121,14 +122,14 @@ fixed-line-is-shut-out demand =
 
 pub fixed-reader-is-shut-out : ReadsByTheTables fixedReader → ⊥
 fixed-reader-is-shut-out demand =
-    let told : length (telegramOf true fixedRecord) ≡ 0 = ap length (demand true [] fixedRecord .0 refl .1) in
+    let told : length (telegramOf true fixedRecord) ≡ 0 = ap length (demand AsPrinted true [] fixedRecord .0 refl .1) in
     omega arith
 
 -- "a writer .. that does nothing (2)"
 pub idle-writer-is-shut-out : WritesByTheTables idleWriter → ⊥
 idle-writer-is-shut-out demand =
     let size : length (telegramOf true early) ≡ 10 = ap length written-so in
-    let told : 0 ≡ length (telegramOf true early) = ap sizeIn (demand true early its-bytes is-good (omega arith) .0) in
+    let told : 0 ≡ length (telegramOf true early) = ap sizeIn (demand AsPrinted true early its-bytes is-good (omega arith) .0) in
     omega arith
 
 -- "a reader that honours the first piece and drops the others (3)": the telegram is cut behind its STX
@@ -138,7 +139,7 @@ in-two = record { piece = 2 ∷ []; times = 1 } ∷ record { piece = behind-stx;
 pub first-piece-line-is-shut-out : HandsBackThatList firstPieceLine → ⊥
 unfolding feedReader wellFormed
 first-piece-line-is-shut-out demand =
-    let hears : [] ≡ eventsSent 0 sent = demand sent [] (is-good, tt) (refl, refl) in-two line-so (refl, (refl, tt)) .0 in
+    let hears : [] ≡ eventsSent AsPrinted 0 sent = demand AsPrinted sent [] (is-good, tt) (refl, refl) in-two line-so (refl, (refl, tt)) .0 in
     let told : _≡_ {A = ℕ} 24 1 = ap hourOf (hears ∙ events-so) in
     omega arith
 

@@ -14,9 +14,12 @@ use Rattle.record.specs.declared.Record.{Record}
 use Rattle.layouts.specs.declared.Layout.{Layout}
 use Rattle.layouts.specs.declared.Layout.the-variants as layouts
 use Rattle.layouts.specs.Layouts.{placesOf, ownLayout, byTrailer, layoutOf}
-use Rattle.telegram.specs.Reading.{bodyOf}
-use Rattle.telegram.specs.Writing.{telegramOf}
+use Rattle.trailer.specs.declared.Order.{Order}
+use Rattle.trailer.proofs.TrailerLaws.{length-in-order}
+use Rattle.telegram.specs.Reading.{bodyOf, bodyIn}
+use Rattle.telegram.specs.Writing.{telegramIn, telegramOf}
 use Rattle.telegram.proofs.WriteLaws.{length-body, length-framed}
+use Rattle.telegram.proofs.InOrder.{length-telegram}
 use Rattle.demands.specs.Lengths.{sevenLayouts, lengthIn, lengthOf}
 use Rattle.demands.specs.Numbers.{_givenWhen_, among, _byFirst_}
 
@@ -30,9 +33,12 @@ two-more (layouts.TimeOnly T6021) = refl
 two-more (layouts.TimeOnly T5500) = refl
 two-more (layouts.TimeOnly T5050) = refl
 
-pub telegram-length : (control : Bool) (rec : Record) → length (telegramOf control rec) ≡ lengthOf control (ownLayout rec)
-telegram-length true rec = length-framed rec ∙ ap (λ n. n + 2) (length-body rec) ∙ two-more (ownLayout rec)
-telegram-length false rec = omega (arith, length-body rec, two-more (ownLayout rec))
+printed-length : (control : Bool) (rec : Record) → length (telegramOf control rec) ≡ lengthOf control (ownLayout rec)
+printed-length true rec = length-framed rec ∙ ap (λ n. n + 2) (length-body rec) ∙ two-more (ownLayout rec)
+printed-length false rec = omega (arith, length-body rec, two-more (ownLayout rec))
+
+pub telegram-length : (order : Order) (control : Bool) (rec : Record) → length (telegramIn order control rec) ≡ lengthOf control (ownLayout rec)
+telegram-length order control rec = length-telegram order control rec ∙ printed-length control rec
 
 -- a layout is found exactly for a length of the table
 pub found : (bytes : List ℕ) → layoutOf bytes byFirst 1 givenWhen not (among (map (lengthOf false) sevenLayouts) (length bytes)) ∷ []
@@ -59,10 +65,15 @@ shift n k = go (eqb n (suc k + 2)) refl
     go true e = let same = eqb-true n (suc k + 2) e in eq-eqb (n - 2) (suc k) (omega arith)
     go false e = let other = eqb-false n (suc k + 2) e in ne-eqb (n - 2) (suc k) (λ same. other (omega arith))
 
-pub length-in-table : (control : Bool) (bytes : List ℕ)
+body-in-table : (control : Bool) (bytes : List ℕ)
     → among (map (lengthOf false) sevenLayouts) (length (bodyOf control bytes)) ≡ among (map (lengthOf control) sevenLayouts) (length bytes)
-length-in-table false bytes = refl
-length-in-table true bytes =
+body-in-table false bytes = refl
+body-in-table true bytes =
     let n = length bytes in
     let body : length (take (n - 2) (drop 1 bytes)) ≡ n - 2 = omega (arith, length-take (n - 2) (drop 1 bytes), length-drop 1 bytes) in
     rw (body, shift n 15, shift n 7, shift n 17, shift n 18, shift n 22, shift n 10)
+
+pub length-in-table : (order : Order) (control : Bool) (bytes : List ℕ)
+    → among (map (lengthOf false) sevenLayouts) (length (bodyIn order control bytes)) ≡ among (map (lengthOf control) sevenLayouts) (length bytes)
+length-in-table order control bytes =
+    ap (among (map (lengthOf false) sevenLayouts)) (length-in-order order (bodyOf control bytes)) ∙ body-in-table control bytes

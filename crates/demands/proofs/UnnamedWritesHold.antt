@@ -30,10 +30,11 @@ use Rattle.record.specs.Next.{recordAfter, nextSecondOf}
 use Rattle.layouts.specs.declared.Layout.the-variants as layouts
 use Rattle.layouts.specs.Layouts.{placesOf, ownLayout}
 use Rattle.layouts.specs.Coding.{statusOut6021}
+use Rattle.trailer.specs.declared.Order.the-variants.{AsPrinted}
 use Rattle.telegram.specs.declared.write.Setting.{Setting}
 use Rattle.telegram.specs.declared.write.Choice.{Choice}
-use Rattle.telegram.specs.declared.write.Choice.the-variants.{Named, Unnamed}
-use Rattle.telegram.specs.Writing.{bodyBytes, telegramOf, as6021, judgedOf, recordToWrite, controlOf, telegramFor, nextTelegram, telegramsIn, withMore, unlessEnded, severalAfter}
+use Rattle.telegram.specs.declared.write.Choice.the-variants.{Named, NamedIn, Unnamed}
+use Rattle.telegram.specs.Writing.{bodyBytes, telegramIn, telegramOf, as6021, judgedOf, recordBy, recordToWrite, controlOf, orderOf, telegramFor, nextTelegram, telegramsIn, withMore, unlessEnded, severalAfter}
 use Rattle.telegram.proofs.WriteLaws.{telegram-refused, telegram-made, was-made}
 use Rattle.telegram.proofs.ReadsBack.{written-is-good}
 use Rattle.telegram.proofs.SeveralLaws.{stood-as, several-stand}
@@ -44,9 +45,9 @@ use Rattle.line.specs.Cuts.{Calls}
 use Rattle.line.specs.SentLine.{Sent, bytesSent, noStx, eventsSent, straySent}
 use Rattle.line.proofs.SentLaws.{plain-body}
 use Rattle.demands.specs.Lengths.{lengthOf}
-use Rattle.demands.specs.Demand2.{Good, plain}
+use Rattle.demands.specs.Demand2.{Good}
 use Rattle.demands.specs.Demand3.{GoodTelegrams, NoStxAround, GivesBack, HandsBack}
-use Rattle.demands.specs.UnnamedWrites.{unnamedBefore, nextBefore, TheBytesOfBeforeBetweenStxAndEtx, BeforeAllBytesWereStray, TheLineReaderSeesIt, UnnamedMeans6021WithControlCharacters, ItHas18Bytes, TimeAloneIsStill14, TheRecordsOwnComesFirst, GoodDated, form6021, everyEighteen, SeveralFollow, Is6021, NamedBareDoesWhatUnnamedDid, SeveralNamedBareDoSo, NoChoiceMakesAnothersBare6021, UnnamedWritesAreAsAskedFor}
+use Rattle.demands.specs.UnnamedWrites.{named, unnamedBefore, nextBefore, TheBytesOfBeforeBetweenStxAndEtx, BeforeAllBytesWereStray, TheLineReaderSeesIt, UnnamedMeans6021WithControlCharacters, ItHas18Bytes, TimeAloneIsStill14, TheRecordsOwnComesFirst, GoodDated, form6021, everyEighteen, SeveralFollow, Is6021, NamedBareDoesWhatUnnamedDid, SeveralNamedBareDoSo, NoChoiceMakesAnothersBare6021, UnnamedWritesAreAsAskedFor}
 use Rattle.demands.proofs.TableLengths.{telegram-length}
 use Rattle.demands.proofs.RulesHold.{next-layout}
 use Rattle.demands.proofs.Demand2Holds.{made-itself}
@@ -80,14 +81,14 @@ module _ (rec : Record) (fine : GoodDated rec) where
   form-good = written-is-good Unnamed rec (form6021 rec) asked
 
   made : telegramFor Unnamed rec ≡ done (telegramOf true (form6021 rec))
-  made = telegram-made Unnamed rec true (form6021 rec) asked refl
+  made = telegram-made Unnamed rec AsPrinted true (form6021 rec) asked refl refl
 
   eighteen : length (telegramOf true (form6021 rec)) ≡ 18
-  eighteen = telegram-length true (form6021 rec) ∙ ap (lengthOf true) (form-layout rec (form6021 rec) (has-form rec (fine .1)))
+  eighteen = telegram-length AsPrinted true (form6021 rec) ∙ ap (lengthOf true) (form-layout rec (form6021 rec) (has-form rec (fine .1)))
 
 means : UnnamedMeans6021WithControlCharacters
 means rec room fine =
-    ap (within room) (made rec fine ∙ sym (telegram-made (plain true) (form6021 rec) true (form6021 rec) (does (form6021 rec) (form-good rec fine)) refl))
+    ap (within room) (made rec fine ∙ sym (telegram-made (named true) (form6021 rec) AsPrinted true (form6021 rec) (does (form6021 rec) (form-good rec fine)) refl refl))
 
 has-18-bytes : ItHas18Bytes
 has-18-bytes rec room fine =
@@ -114,7 +115,7 @@ telegram rec = telegramOf true (form6021 rec)
 abbrev alone : Record → Sent
 alone rec = record { before = []; rec = form6021 rec }
 
-sent-bytes : (recs : List Record) → bytesSent (map alone recs) [] ≡ joined (map telegram recs)
+sent-bytes : (recs : List Record) → bytesSent AsPrinted (map alone recs) [] ≡ joined (map telegram recs)
 sent-bytes [] = refl
 sent-bytes (rec ∷ recs) = ap (_++_ (telegram rec)) (sent-bytes recs)
 
@@ -130,12 +131,12 @@ all-good : (recs : List Record) → EachHolds GoodDated recs → GoodTelegrams (
 all-good [] fine = tt
 all-good (rec ∷ recs) fine = (form-good rec (fine .0), all-good recs (fine .1))
 
-events : (from : ℕ) (recs : List Record) → EachHolds GoodDated recs → eventsSent from (map alone recs) ≡ everyEighteen from recs
+events : (from : ℕ) (recs : List Record) → EachHolds GoodDated recs → eventsSent AsPrinted from (map alone recs) ≡ everyEighteen from recs
 events from [] fine = refl
 events from (rec ∷ recs) fine =
     let size = eighteen rec (fine .0) in
     let next : from + 0 + length (telegram rec) ≡ from + 18 = omega (arith, size) in
-    (λ i. Event (answer.Good (form6021 rec)) (add-zero from i % 2 ^ 32) (size i) ∷ eventsSent (next i) (map alone recs))
+    (λ i. Event (answer.Good (form6021 rec)) (add-zero from i % 2 ^ 32) (size i) ∷ eventsSent AsPrinted (next i) (map alone recs))
     ∙ ap (_∷_ (Event (answer.Good (form6021 rec)) (from % 2 ^ 32) 18)) (events (from + 18) recs (fine .1))
 
 -- a body has no STX
@@ -147,9 +148,9 @@ plain-no-stx (byte ∷ bytes) plain =
 
 -- by any call that hands back what demand 3 says
 module _ (call : Reader → List ℕ → Calls) (demand : HandsBack call) where
-  forms-come-back : (recs : List Record) → EachHolds GoodDated recs → GivesBack call (joined (map telegram recs)) (everyEighteen 0 recs) 0
+  forms-come-back : (recs : List Record) → EachHolds GoodDated recs → GivesBack call AsPrinted (joined (map telegram recs)) (everyEighteen 0 recs) 0
   forms-come-back recs fine served cut used =
-      let back = demand (map alone recs) [] (all-good recs fine) (nothing-around recs) served (cut ∙ sym (sent-bytes recs)) used in
+      let back = demand AsPrinted (map alone recs) [] (all-good recs fine) (nothing-around recs) served (cut ∙ sym (sent-bytes recs)) used in
       (back .0 ∙ events 0 recs fine, back .1 ∙ ap (λ n. n % 4294967296) (no-stray recs), back .2)
 
   sees-it : TheLineReaderSeesIt call
@@ -162,12 +163,12 @@ module _ (call : Reader → List ℕ → Calls) (demand : HandsBack call) where
   was-stray : BeforeAllBytesWereStray call
   was-stray rec bytes = go (after (judgedOf rec) as6021) refl
     where
-      go : (o : Outcome Record) → after (judgedOf rec) as6021 ≡ o → after o (λ r. done (telegramOf false r)) ≡ done bytes → GivesBack call bytes [] 16
+      go : (o : Outcome Record) → after (judgedOf rec) as6021 ≡ o → after o (λ r. done (telegramOf false r)) ≡ done bytes → GivesBack call AsPrinted bytes [] 16
       go (done form) is e = λ served cut used.
           let body : bodyBytes form ≡ bytes = cc in
           let a-6021 = form-layout rec form (sym (made-itself (refusalOf rec) rec form is) ∙ is) in
-          let size : length bytes ≡ 16 = ap length (sym body) ∙ telegram-length false form ∙ ap (lengthOf false) a-6021 in
-          let back = demand [] bytes tt (ap noStx (sym body) ∙ plain-no-stx (bodyBytes form) (plain-body form)) served cut used in
+          let size : length bytes ≡ 16 = ap length (sym body) ∙ telegram-length AsPrinted false form ∙ ap (lengthOf false) a-6021 in
+          let back = demand AsPrinted [] bytes tt (ap noStx (sym body) ∙ plain-no-stx (bodyBytes form) (plain-body AsPrinted form)) served cut used in
           (back .0, back .1 ∙ ap (λ n. n % 4294967296) size, back .2)
       go (refused n) is e = let z : _≡_ {A = ℕ} 0 1 = cc in absurd (omega arith)
 
@@ -201,7 +202,7 @@ module _ (call : Reader → List ℕ → Calls) (demand : HandsBack call) where
       )
 
 -- The meter programs: a 6021 record is its own 6021 form.
-bare-as-before : (rec : Record) → Is6021 rec → telegramFor (plain false) rec ≡ unnamedBefore rec
+bare-as-before : (rec : Record) → Is6021 rec → telegramFor (named false) rec ≡ unnamedBefore rec
 unfolding unless telegramFor
 bare-as-before (Dated layout status weekday date time) is =
     let same : layout ≡ L6021 = cc in
@@ -215,16 +216,16 @@ bare-as-before (TimeOnly layout time) is = let z : _≡_ {A = ℕ} 0 1 = cc in a
 does-what-unnamed-did : NamedBareDoesWhatUnnamedDid
 does-what-unnamed-did rec buffer is = ap (λ o. laid o buffer) (bare-as-before rec is)
 
-stand-as-before : (n room : ℕ) (recs : List Record) → EachHolds Is6021 recs → oneBehindAnother (nextTelegram (plain false)) n room recs ≡ oneBehindAnother nextBefore n room recs
+stand-as-before : (n room : ℕ) (recs : List Record) → EachHolds Is6021 recs → oneBehindAnother (nextTelegram (named false)) n room recs ≡ oneBehindAnother nextBefore n room recs
 unfolding oneBehindAnother
 stand-as-before zero room recs are = refl
 stand-as-before (suc n) room [] are = refl
 stand-as-before (suc n) room (rec ∷ recs) are =
-    ap (λ o. partThen (within room o) (rec ∷ recs) (λ bytes. oneBehindAnother (nextTelegram (plain false)) n (room - length bytes) recs)) (bare-as-before rec (are .0))
+    ap (λ o. partThen (within room o) (rec ∷ recs) (λ bytes. oneBehindAnother (nextTelegram (named false)) n (room - length bytes) recs)) (bare-as-before rec (are .0))
     ∙ go (within room (unnamedBefore rec)) (λ less. stand-as-before n less recs (are .1))
   where
-    go : (o : Outcome (List ℕ)) → ((less : ℕ) → oneBehindAnother (nextTelegram (plain false)) n less recs ≡ oneBehindAnother nextBefore n less recs)
-        → partThen o (rec ∷ recs) (λ bytes. oneBehindAnother (nextTelegram (plain false)) n (room - length bytes) recs)
+    go : (o : Outcome (List ℕ)) → ((less : ℕ) → oneBehindAnother (nextTelegram (named false)) n less recs ≡ oneBehindAnother nextBefore n less recs)
+        → partThen o (rec ∷ recs) (λ bytes. oneBehindAnother (nextTelegram (named false)) n (room - length bytes) recs)
         ≡ partThen o (rec ∷ recs) (λ bytes. oneBehindAnother nextBefore n (room - length bytes) recs)
     go (done bytes) on = ap (λ later. record { parts = bytes ∷ later .parts; left = later .left; ending = later .ending }) (on (room - length bytes))
     go (refused number) on = refl
@@ -236,7 +237,7 @@ several-do-so several recs buffer are =
     (stand-as-before (length recs) (length buffer - several .used) recs are)
 
 -- what a named setting writes is of the record's own layout, and has its length
-own-kept : (setting : Setting) (rec r : Record) → recordToWrite (Named setting) rec ≡ done r → ownLayout r ≡ ownLayout rec
+own-kept : (setting : Setting) (rec r : Record) → recordBy setting rec ≡ done r → ownLayout r ≡ ownLayout rec
 unfolding nextSecondOf
 own-kept setting rec r = go (setting .advance)
   where
@@ -258,12 +259,17 @@ no-choice choice (Dated layout status weekday date time) fine other same =
     let rec = Dated layout status weekday date time in
     let form = Dated L6021 status weekday date time in
     let written = was-made choice rec (telegramOf false form) same in
-    let size : length (telegramOf (controlOf choice) (written .0)) ≡ 16 = ap length (written .2) ∙ telegram-length false form in
-    go choice (written .0) (written .1) (sym (telegram-length (controlOf choice) (written .0)) ∙ size)
+    let size : length (telegramIn (orderOf choice) (controlOf choice) (written .0)) ≡ 16 = ap length (written .2) ∙ telegram-length AsPrinted false form in
+    go choice (written .0) (written .1) (sym (telegram-length (orderOf choice) (controlOf choice) (written .0)) ∙ size)
   where
-    go : (choice : Choice) (r : Record) → recordToWrite choice (Dated layout status weekday date time) ≡ done r → lengthOf (controlOf choice) (ownLayout r) ≡ 16 → ⊥
-    go (Named setting) r e size =
+    by-setting : (setting : Setting) (r : Record) → recordBy setting (Dated layout status weekday date time) ≡ done r
+        → lengthOf (setting .control) (ownLayout r) ≡ 16 → ⊥
+    by-setting setting r e size =
         not-16 (setting .control) layout other (ap (lengthOf (setting .control)) (sym (own-kept setting (Dated layout status weekday date time) r e)) ∙ size)
+
+    go : (choice : Choice) (r : Record) → recordToWrite choice (Dated layout status weekday date time) ≡ done r → lengthOf (controlOf choice) (ownLayout r) ≡ 16 → ⊥
+    go (Named setting) r e size = by-setting setting r e size
+    go (NamedIn setting order) r e size = by-setting setting r e size
     go Unnamed r e size =
         let told : done (Dated L6021 status weekday date time) ≡ done r = sym (asked (Dated layout status weekday date time) fine) ∙ e in
         let is : Dated L6021 status weekday date time ≡ r = cc in

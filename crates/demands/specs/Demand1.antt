@@ -22,9 +22,10 @@ use Rattle.record.specs.Season.{toUtc}
 use Rattle.record.specs.Rule.{refusalOf}
 use Rattle.record.specs.Next.{nextSecondOf}
 use Rattle.record.specs.Utc.{countOf, utcSeconds}
+use Rattle.trailer.specs.declared.Order.{Order}
 use Rattle.telegram.specs.declared.write.Choice.{Choice}
 use Rattle.telegram.specs.declared.several.Several.{Several}
-use Rattle.telegram.specs.Reading.{readOf}
+use Rattle.telegram.specs.Reading.{readIn}
 use Rattle.telegram.specs.Writing.{telegramFor, written, severalAfter}
 use Rattle.line.specs.declared.Reader.{Reader}
 use Rattle.line.specs.declared.Heard.the-variants.{Refused}
@@ -35,18 +36,21 @@ use Rattle.clock.specs.declared.Clock.{Clock}
 use Rattle.clock.specs.Stepping.{stepOf}
 use Rattle.clock.specs.Answers.{stepAnswer}
 use Rattle.board.specs.declared.of_6036.Parameter.{Parameter}
+use Rattle.board.specs.declared.of_6038.Parameter.{Parameter as Parameter6038}
 use Rattle.board.specs.Of6036.{offered, byteFor}
+use Rattle.board.specs.Of6038 as of-6038
+use Rattle.board.specs.RoundTrip6038.{isOffOn}
 use Rattle.places.specs.Places.{Place, foundIn}
 use Rattle.layouts.specs.Layouts.{layoutOf}
 use Rattle.demands.specs.Lengths.{sevenLayouts, lengthOf}
 use Rattle.demands.specs.Numbers.{_givenWhen_, lowest, among, _refusedBy_, _doneOr_, _noneOr_, _silentOr_, EachSilentOr}
 use Rattle.demands.specs.Rules.{placeRules, dateRules, recordRules, readingRules, nextSecondRules, writingRules, countRules, shiftRules, utcRules, stepRules}
 
--- one telegram read: 1 to 8
+-- one telegram read, in either order: 1 to 8
 abbrev pub ReadingRefuses : Type 0
 ReadingRefuses =
-    (control : Bool) (bytes : List ℕ)
-    → (readOf control bytes refusedBy readingRules control bytes) × (readOf control bytes doneOr 1 ∷ 2 ∷ 3 ∷ 4 ∷ 5 ∷ 6 ∷ 7 ∷ 8 ∷ [])
+    (order : Order) (control : Bool) (bytes : List ℕ)
+    → (readIn order control bytes refusedBy readingRules order control bytes) × (readIn order control bytes doneOr 1 ∷ 2 ∷ 3 ∷ 4 ∷ 5 ∷ 6 ∷ 7 ∷ 8 ∷ [])
 
 -- the layout of a body: 1
 abbrev pub TheLayoutRefuses : Type 0
@@ -129,6 +133,13 @@ TheEndRefuses = (reader : Reader) → wellFormed reader ≡ true → endReader r
 -- the 6036 parameter byte: every byte is read; a setting that the board does not offer is 16
 abbrev pub TheParameterByteRefuses : Type 0
 TheParameterByteRefuses = (setting : Parameter) → byteFor setting refusedBy 16 givenWhen not (offered setting) ∷ []
+
+-- document 02, f, the 6038's: "16 for off/on when read", and for a setting that the board does not offer
+abbrev pub TheParameterByteOfA6038Refuses : Type 0
+TheParameterByteOfA6038Refuses =
+    (byte : ℕ) (setting : Parameter6038)
+    → (of-6038.parameterIn byte refusedBy 16 givenWhen isOffOn byte ∷ [])
+    × (of-6038.byteFor setting refusedBy 16 givenWhen not (of-6038.offered setting) ∷ [])
 
 -- the calendar: a date's day number 6, 7; the date of a day number 12; the day after 6, 7, 12; the length of a month 6; the second of
 -- the day 6; the next second of the day 6

@@ -6,6 +6,7 @@ use mathlib.Core.Path.{_≡_}
 use Prim.Native.Nat.{ℕ}
 use lib.Dec.{ltb}
 use Rattle.refusals.specs.Refusals.{Outcome, done, refused}
+use Rattle.trailer.specs.declared.Order.the-variants.{AsPrinted}
 use Rattle.log.specs.declared.verify.Verified.{Verified}
 use Rattle.log.specs.declared.verify.Verified.the-variants.{AllGood, Bad, Refused}
 use Rattle.log.specs.Block.{slots}
@@ -31,9 +32,9 @@ someBad (block ∷ blocks) = not (isGood block) || someBad blocks
 abbrev pub freeRules : List ℕ → List Rule
 freeRules region = 19 givenWhen not (isWhole region) ∷ 21 givenWhen not (hasFree (wholeBlocks region)) ∷ []
 
--- adding: "an added telegram's own, then" those
+-- adding: "an added telegram's own, then" those; document 02, f: "the log takes as-printed order only"
 abbrev pub addRules : List ℕ → List ℕ → List Rule
-addRules region telegram = readingRules true telegram ++ freeRules region
+addRules region telegram = readingRules AsPrinted true telegram ++ freeRules region
 
 -- reading back: 19, "20 block bad", where there is such a block, "27 no telegram at that block and slot"
 abbrev pub readBackRules : List ℕ → ℕ → ℕ → List Rule

@@ -18,4 +18,5 @@ pub mod Boundary
 pub mod SecondSixty
 pub mod TheLog
 pub mod UnnamedWrites
+pub mod The6038
 pub mod PrintedTables

@@ -1,12 +1,15 @@
 -- The tables and examples as documents 01 and 02 and the makers' manuals print them, in the documents' order. Each is stated in
--- literal rows in the crate whose definitions it pins (its file is specs/AsPrinted.antt), so that a swap made in definition and code
--- together is refused there. This page names them all, to be held beside the documents.
+-- literal rows in the crate whose definitions it pins (in specs/, in a file with AsPrinted in its name), so that a swap made in
+-- definition and code together is refused there. This page names them all, to be held beside the documents.
 use Rattle.layouts.specs.AsPrinted.{TheTablesAreAsPrinted}
 use Rattle.telegram.specs.AsPrinted.{WritesAreAsPrinted}
+use Rattle.trailer.specs.AsPrinted.{TrailersAreAsPrinted}
+use Rattle.telegram.specs.OrderAsPrinted.{OrdersAreAsPrinted}
 use Rattle.record.specs.AsPrinted.{RecordsAreAsPrinted, SixtiesAreAsPrinted, TheLastSixtyIsAsPrinted}
 use Rattle.calendar.specs.AsPrinted.{TheMonthStartsAreAsPrinted, TheCalendarIsAsPrinted, TheDaysOfTheYearAreAsPrinted}
 use Rattle.clock.specs.AsPrinted.{StepsAreAsPrinted, TheLastSixtyIsAsPrinted as TheLastStepIsAsPrinted}
 use Rattle.board.specs.AsPrinted.{The6036IsAsPrinted}
+use Rattle.board.specs.AsPrinted6038.{The6038IsAsPrinted}
 use Rattle.listing.specs.AsPrinted.{TheListingIsAsPrinted}
 use Rattle.pages.specs.AsPrinted.{TheWholeListingIsAsPrinted}
 use Rattle.leitch.specs.AsPrinted.{TheReplyIsAsPrinted, EveryReplyIsAsPrinted}
@@ -52,3 +55,7 @@ AllIsAsPrinted =
     × TheListingsOfALogAreAsPrinted
     -- "Refusal numbers", and document 02, e: what each setting writes, and what is written without one; buffers of each length around 18
     × WritesAreAsPrinted
+    -- document 02, f, and 003, 1.2: every row of the 6038's switch tables, hex 20; a telegram of each layout written and read in both orders
+    × The6038IsAsPrinted
+    × TrailersAreAsPrinted
+    × OrdersAreAsPrinted

@@ -5,16 +5,17 @@ use mathlib.Core.List.{List}
 use Prim.Native.Nat.{ℕ}
 use Rattle.refusals.specs.Refusals.{Outcome}
 use Rattle.record.specs.declared.Record.{Record}
+use Rattle.trailer.specs.declared.Order.{Order}
 use Rattle.telegram.specs.declared.write.Choice.{Choice}
-use Rattle.telegram.specs.Reading.{readOf}
+use Rattle.telegram.specs.Reading.{readIn}
 use Rattle.telegram.specs.Writing.{written}
 use Rattle.line.specs.declared.Reader.{Reader}
 use Rattle.line.specs.declared.Fed.{Fed}
 use Rattle.line.specs.Line.{feedReader}
 
--- one telegram read, with or without control characters
-abbrev pub reads : Bool → List ℕ → Outcome Record
-reads = readOf
+-- one telegram read, in an order of the trailer, with or without control characters
+abbrev pub reads : Order → Bool → List ℕ → Outcome Record
+reads = readIn
 
 -- one telegram written, with a setting or none, into a buffer of so many bytes
 abbrev pub writes : Choice → Record → ℕ → Outcome (List ℕ)

@@ -1,4 +1,4 @@
--- Document 01, "Refusal numbers", and document 02, b and e: for each entry point its rows of the table, "given exactly when", in the order of their numbers.
+-- Document 01, "Refusal numbers", and document 02, b, e and f: for each entry point its rows of the table, "given exactly when", in the order of their numbers.
 use mathlib.Core.Bool.{Bool, false, not, _&&_, _||_}
 use mathlib.Core.List.{List, [], _∷_, _++_, map}
 use Prim.Native.Nat.{ℕ, _+_, _*_}
@@ -20,9 +20,11 @@ use Rattle.record.specs.Next.{isLastOfCalendar}
 use Rattle.record.specs.Utc.{noneFollows}
 use Rattle.layouts.specs.declared.Layout.{Layout}
 use Rattle.layouts.specs.Layouts.{placesOf, ownLayout, layoutOf}
+use Rattle.trailer.specs.declared.Order.{Order}
+use Rattle.telegram.specs.declared.write.Setting.{Setting}
 use Rattle.telegram.specs.declared.write.Choice.{Choice}
-use Rattle.telegram.specs.declared.write.Choice.the-variants.{Named, Unnamed}
-use Rattle.telegram.specs.Reading.{bodyOf, framed, carried}
+use Rattle.telegram.specs.declared.write.Choice.the-variants.{Named, NamedIn, Unnamed}
+use Rattle.telegram.specs.Reading.{bodyIn, framed, carried}
 use Rattle.demands.specs.Lengths.{sevenLayouts, lengthOf}
 use Rattle.demands.specs.Numbers.{Rule, _givenWhen_, among}
 
@@ -51,33 +53,38 @@ placeRules row bytes =
     ∷ []
 
 -- reading, once the layout is found: 2 "control characters wanted, first isn't STX or last isn't ETX", 3 "a space, CR or LF of the
--- layout isn't in its place", 4 "a decimal place holds no 0 to 9", 5 a status or weekday character that is none, then the record's
-abbrev pub rulesIn : Bool → List ℕ → Outcome Layout → List Rule
-rulesIn control bytes (done layout) =
+-- layout isn't in its place", 4 "a decimal place holds no 0 to 9", 5 a status or weekday character that is none, then the record's; all
+-- but 1 and 2 of the body with its trailer as printed, so that the order counts "for the trailer check and all that rests on it"
+abbrev pub rulesIn : Order → Bool → List ℕ → Outcome Layout → List Rule
+rulesIn order control bytes (done layout) =
     2 givenWhen (control && not (framed bytes))
-    ∷ 3 givenWhen not (every fixedHolds (placesOf layout) (bodyOf control bytes))
-    ∷ 4 givenWhen not (every decimalHolds (placesOf layout) (bodyOf control bytes))
-    ∷ 5 givenWhen not (every codeHolds (placesOf layout) (bodyOf control bytes))
-    ∷ recordRules (carried layout (bodyOf control bytes))
-rulesIn control bytes (refused n) = []
+    ∷ 3 givenWhen not (every fixedHolds (placesOf layout) (bodyIn order control bytes))
+    ∷ 4 givenWhen not (every decimalHolds (placesOf layout) (bodyIn order control bytes))
+    ∷ 5 givenWhen not (every codeHolds (placesOf layout) (bodyIn order control bytes))
+    ∷ recordRules (carried layout (bodyIn order control bytes))
+rulesIn order control bytes (refused n) = []
 
 -- reading: 1 "length isn't one in the table", then the rest
-abbrev pub readingRules : Bool → List ℕ → List Rule
-readingRules control bytes =
-    1 givenWhen not (among (map (lengthOf control) sevenLayouts) (length bytes)) ∷ rulesIn control bytes (layoutOf (bodyOf control bytes))
+abbrev pub readingRules : Order → Bool → List ℕ → List Rule
+readingRules order control bytes =
+    1 givenWhen not (among (map (lengthOf control) sevenLayouts) (length bytes)) ∷ rulesIn order control bytes (layoutOf (bodyIn order control bytes))
 
 -- the next second: 12 "after 31.12.2079 23:59:59", and 23:59:60
 abbrev pub nextSecondRules : Record → List Rule
 nextSecondRules rec = recordRules rec ++ 12 givenWhen isLastOfCalendar rec ∷ []
 
--- writing: 13 "the lent buffer is shorter than what is to be written". Without a named setting that is a 6021 with control characters,
--- 18 bytes, or nothing: 14 "a date is needed and the layout carries none"
-abbrev pub writingRules : Choice → Record → ℕ → List Rule
-writingRules (Named setting) rec room =
+-- writing: 13 "the lent buffer is shorter than what is to be written", in any order of the trailer. Without a named setting that is a
+-- 6021 with control characters, 18 bytes, or nothing: 14 "a date is needed and the layout carries none"
+abbrev pub settingRules : Setting → Record → ℕ → List Rule
+settingRules setting rec room =
     recordRules rec
     ++ 12 givenWhen (setting .advance && isLastOfCalendar rec)
     ∷ 13 givenWhen ltb room (lengthOf (setting .control) (ownLayout rec))
     ∷ []
+
+abbrev pub writingRules : Choice → Record → ℕ → List Rule
+writingRules (Named setting) rec room = settingRules setting rec room
+writingRules (NamedIn setting order) rec room = settingRules setting rec room
 writingRules Unnamed rec room =
     recordRules rec ++ 13 givenWhen (carriesDate rec && ltb room 18) ∷ 14 givenWhen not (carriesDate rec) ∷ []
 

@@ -19,6 +19,7 @@ use Rattle.record.specs.Rule.{statusAllowed}
 use Rattle.record.specs.SixtyByFields.{TheFieldsSayTheSame}
 use Rattle.record.specs.Following.{ASixtyIsAcceptedExactlyThen, TheSameRecordWith59Decides, ASixtyGoesTo00, ASixtySharesItsFollowersNumber, OneSixtyHasNoFollower, TheLastSixtyIsGoodAndNoneFollows, WithoutAFollowerItHasNoNumber, NoCountIsBehindTheCalendar}
 use Rattle.clock.specs.Running.{TheLastSixtyGives12}
+use Rattle.trailer.specs.declared.Order.{Order}
 use Rattle.leitch.specs.declared.Reply.{Reply}
 use Rattle.leitch.specs.Rule.{fieldsRefusal}
 use Rattle.demands.specs.Demand2.{advanced, NeitherMakesASixty}
@@ -60,8 +61,8 @@ LeitchAnswersStayAt59 = (reply : Reply) → fieldsRefusal reply ≡ 0 → reply 
 -- "with 12 after 31.12.2079 23:59:60 too", of second advance: whatever the layout and the status that can say it, and whatever the buffer
 abbrev pub TheLastSixtyIsNotAdvanced : Type 0
 TheLastSixtyIsNotAdvanced =
-    (control : Bool) (layout : DatedLayout) (status : Status) (room : ℕ) → status .utc ≡ true → statusAllowed layout status ≡ true
-    → writes (advanced control) (Dated layout status 7 (date 2079 12 31) (time 23 59 60)) room ≡ refused 12
+    (order : Order) (control : Bool) (layout : DatedLayout) (status : Status) (room : ℕ) → status .utc ≡ true → statusAllowed layout status ≡ true
+    → writes (advanced order control) (Dated layout status 7 (date 2079 12 31) (time 23 59 60)) room ≡ refused 12
 
 abbrev pub SecondSixtyIsAsAskedFor : Type 0
 SecondSixtyIsAsAskedFor =

@@ -1,7 +1,7 @@
 -- Document 02, e, "Writes carry STX and ETX unless told otherwise", sentence by sentence. All refusals of a write together stand in the
 -- rules of demand 1, that an unnamed one reads back with control characters in demand 2, and its printed rows in
 -- telegram/specs/AsPrinted.antt.
-use mathlib.Core.Bool.{true, false}
+use mathlib.Core.Bool.{Bool, true, false}
 use mathlib.Core.List.{List, [], _∷_, _++_}
 use mathlib.Core.Path.{_≡_}
 use Prim.Native.Nat.{ℕ, _+_, _-_, _*_, _%_, _^_, _≤_, _<_}
@@ -23,8 +23,9 @@ use Rattle.record.specs.declared.RecordAnswer.the-variants as answer
 use Rattle.record.specs.Rule.{refusalOf, carriesDate}
 use Rattle.layouts.specs.declared.Layout.the-variants as layouts
 use Rattle.layouts.specs.Layouts.{ownLayout}
+use Rattle.trailer.specs.declared.Order.the-variants.{AsPrinted}
 use Rattle.telegram.specs.declared.write.Choice.{Choice}
-use Rattle.telegram.specs.declared.write.Choice.the-variants.{Unnamed}
+use Rattle.telegram.specs.declared.write.Choice.the-variants.{Named, Unnamed}
 use Rattle.telegram.specs.declared.several.Several.{Several}
 use Rattle.telegram.specs.Writing.{telegramOf, as6021, judgedOf, telegramFor, noneYet, withMore, unlessEnded, severalAfter, severalAll}
 use Rattle.line.specs.declared.Reader.{Reader}
@@ -34,8 +35,12 @@ use Rattle.line.specs.Cuts.{Calls, feeding}
 use Rattle.line.specs.Pieces.{usingUp}
 use Rattle.demands.specs.Programs.{writes, feeds}
 use Rattle.demands.specs.Boundary.{highDaylight, highUtc}
-use Rattle.demands.specs.Demand2.{Good, plain}
+use Rattle.demands.specs.Demand2.{Good}
 use Rattle.demands.specs.Demand3.{GivesBack}
+
+-- a setting by name, as the meter programs write it: control characters or not, no second advance, and no order
+abbrev pub named : Bool → Choice
+named control = Named (record { control = control; advance = false })
 
 -- What an unnamed write was before this request, and several of them: document 01, "a write is 6021 whatever layout the record has,
 -- without control characters, without second advance; a time-only record then gives 14". For this page alone.
@@ -59,7 +64,7 @@ TheBytesOfBeforeBetweenStxAndEtx =
 
 -- "New staff forget to ask, and the line reader sees only stray bytes": so it was with the bytes of before
 abbrev pub BeforeAllBytesWereStray : (Reader → List ℕ → Calls) → Type 0
-BeforeAllBytesWereStray call = (rec : Record) (bytes : List ℕ) → unnamedBefore rec ≡ done bytes → GivesBack call bytes [] 16
+BeforeAllBytesWereStray call = (rec : Record) (bytes : List ℕ) → unnamedBefore rec ≡ done bytes → GivesBack call AsPrinted bytes [] 16
 
 -- a good record with a date, and its 6021 form, which has the same fields; a time-only record has none, and is left
 abbrev pub GoodDated : Record → Type 0
@@ -74,12 +79,12 @@ form6021 (TimeOnly layout time) = TimeOnly layout time
 abbrev pub TheLineReaderSeesIt : (Reader → List ℕ → Calls) → Type 0
 TheLineReaderSeesIt call =
     (rec : Record) (room : ℕ) (bytes : List ℕ) → GoodDated rec → writes Unnamed rec room ≡ done bytes
-    → GivesBack call bytes (Event (answer.Good (form6021 rec)) 0 18 ∷ []) 0
+    → GivesBack call AsPrinted bytes (Event (answer.Good (form6021 rec)) 0 18 ∷ []) 0
 
 -- "An unnamed setting now means 6021 with control characters", without second advance: into every buffer it writes, or refuses, as that
 -- setting does by name of the 6021 form
 abbrev pub UnnamedMeans6021WithControlCharacters : Type 0
-UnnamedMeans6021WithControlCharacters = (rec : Record) (room : ℕ) → GoodDated rec → writes Unnamed rec room ≡ writes (plain true) (form6021 rec) room
+UnnamedMeans6021WithControlCharacters = (rec : Record) (room : ℕ) → GoodDated rec → writes Unnamed rec room ≡ writes (named true) (form6021 rec) room
 
 -- "a buffer of 16 bytes is then too short, with 13", as is one of 17: it has 18 bytes
 abbrev pub ItHas18Bytes : Type 0
@@ -107,7 +112,7 @@ abbrev pub SeveralFollow : (Reader → List ℕ → Calls) → Type 0
 SeveralFollow call =
     (recs : List Record) (buffer : List ℕ) → EachHolds GoodDated recs → 18 * length recs ≤ length buffer
     → (severalAll Unnamed recs noneYet buffer .0 ≡ record { count = length recs % 2 ^ 64; used = 18 * length recs; ending = Whole })
-    × GivesBack call (take (18 * length recs) (severalAll Unnamed recs noneYet buffer .1)) (everyEighteen 0 recs) 0
+    × GivesBack call AsPrinted (take (18 * length recs) (severalAll Unnamed recs noneYet buffer .1)) (everyEighteen 0 recs) 0
 
 -- "Two of our meter programs rely on bare output: they hand over 6021 records, must now name it and produce the same bytes as before": of
 -- every 6021 record and with every buffer the named bare write answers and leaves what the unnamed one did; and so several do
@@ -116,12 +121,12 @@ Is6021 rec = ownLayout rec ≡ layouts.Dated L6021
 
 abbrev pub NamedBareDoesWhatUnnamedDid : Type 0
 NamedBareDoesWhatUnnamedDid =
-    (rec : Record) (buffer : List ℕ) → Is6021 rec → laid (telegramFor (plain false) rec) buffer ≡ laid (unnamedBefore rec) buffer
+    (rec : Record) (buffer : List ℕ) → Is6021 rec → laid (telegramFor (named false) rec) buffer ≡ laid (unnamedBefore rec) buffer
 
 abbrev pub SeveralNamedBareDoSo : Type 0
 SeveralNamedBareDoSo =
     (several : Several) (recs : List Record) (buffer : List ℕ) → EachHolds Is6021 recs
-    → severalAfter (plain false) several recs buffer ≡ severalBefore several recs buffer
+    → severalAfter (named false) several recs buffer ≡ severalBefore several recs buffer
 
 -- but of a record of another layout no choice makes the bare 6021
 abbrev pub NoChoiceMakesAnothersBare6021 : Type 0
@@ -136,7 +141,7 @@ meterCases =
     ∷ []
 
 abbrev pub MeterCaseHolds : Record × List ℕ → Type 0
-MeterCaseHolds row = (writes (plain false) (row .0) 16 ≡ done (row .1)) × (within 16 (unnamedBefore (row .0)) ≡ done (row .1))
+MeterCaseHolds row = (writes (named false) (row .0) 16 ≡ done (row .1)) × (within 16 (unnamedBefore (row .0)) ≡ done (row .1))
 
 abbrev pub UnnamedWritesAreAsAskedFor : Type 0
 UnnamedWritesAreAsAskedFor =

@@ -10,16 +10,17 @@ use Rattle.record.specs.declared.Record.{Record}
 use Rattle.record.specs.declared.Record.the-variants.{TimeOnly}
 use Rattle.record.specs.declared.RecordAnswer.{RecordAnswer}
 use Rattle.record.specs.declared.RecordAnswer.the-variants as answer
+use Rattle.trailer.specs.declared.Order.{Order}
 use Rattle.telegram.specs.declared.write.Choice.{Choice}
 use Rattle.line.specs.declared.Reader.{Reader}
 use Rattle.line.specs.declared.Fed.{Fed}
 use Rattle.line.specs.declared.Heard.{Heard}
 use Rattle.line.specs.declared.Heard.the-variants.{Nothing, Event, Refused}
-use Rattle.line.specs.Line.{feedReader}
+use Rattle.line.specs.Line.{readerWith, feedReader}
 
 -- "a reader that refuses everything": one telegram, and on the line
-abbrev pub refusingReader : Bool → List ℕ → Outcome Record
-refusingReader control bytes = refused 1
+abbrev pub refusingReader : Order → Bool → List ℕ → Outcome Record
+refusingReader order control bytes = refused 1
 
 abbrev pub answering : RecordAnswer → Heard → Heard
 answering always Nothing = Nothing
@@ -37,8 +38,8 @@ refusingLine = answeringLine (answer.Refused 1)
 abbrev pub fixedRecord : Record
 fixedRecord = TimeOnly T6021 (record { hour = 0; minute = 0; second = 0 })
 
-abbrev pub fixedReader : Bool → List ℕ → Outcome Record
-fixedReader control bytes = done fixedRecord
+abbrev pub fixedReader : Order → Bool → List ℕ → Outcome Record
+fixedReader order control bytes = done fixedRecord
 
 abbrev pub fixedLine : Reader → List ℕ → Fed
 fixedLine = answeringLine (answer.Good fixedRecord)
@@ -54,7 +55,7 @@ firstPieceLine reader piece =
 
 -- "a stray count that is invented"
 abbrev pub withStray : ℕ → Reader → Reader
-withStray stray reader = record { held = reader .held; len = reader .len; fed = reader .fed; stray = stray; start = reader .start }
+withStray stray reader = readerWith (reader .held) (reader .len) (reader .fed) stray (reader .start) (reader .order)
 
 abbrev pub inventingLine : Reader → List ℕ → Fed
 inventingLine reader piece =
