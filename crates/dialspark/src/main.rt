@@ -9,6 +9,7 @@ use libc::STDOUT_FILENO;
 use logs::Rows;
 use printing::Output;
 use printing::Printer;
+use trailer::Order;
 use words::Asked;
 use words::Source;
 use words::Wanted;
@@ -73,9 +74,9 @@ fn next(capture: i32, printer: Printer, buffer: &mut [u8]) -> Turn {
 
 // Nothing says that the input ends, so the turns are counted down from a number that no run uses up. One buffer is lent to all of
 // them: to make it anew for each would take longer than to skip the stray bytes in it.
-fn list(capture: i32) {
+fn list(capture: i32, order: Order) {
     let mut buffer = io::large_buffer();
-    let mut printer = Printer::start();
+    let mut printer = Printer::start_in(order);
     let output = printer.output;
     let mut more = is_whole(output);
     let mut turns = u64::MAX;
@@ -91,7 +92,8 @@ fn list(capture: i32) {
 
 fn list_wanted(wanted: Wanted, file: i32) {
     match wanted {
-        Wanted::Line => list(file),
+        Wanted::Line => list(file, Order::AsPrinted),
+        Wanted::Exchanged => list(file, Order::Exchanged),
         Wanted::Telegrams => logs::list(Rows::Telegrams, file),
         Wanted::Blocks => logs::list(Rows::Blocks, file),
     }

@@ -1,9 +1,10 @@
 // The words of the command line. One that begins with `--` is an option; one other may name a file.
 use libc::STDERR_FILENO;
 
-// What is to be listed: a captured line, the telegrams of a log, or its blocks.
+// What is to be listed: a captured line, one whose trailers are exchanged, the telegrams of a log, or its blocks.
 pub enum Wanted {
     Line,
+    Exchanged,
     Telegrams,
     Blocks,
 }
@@ -22,7 +23,10 @@ pub enum Asked {
 }
 
 pub(crate) fn usage(to: i32) {
-    io::write_all(to, b"usage: dialspark [--help] [--verify | --log] [FILE]\n");
+    io::write_all(
+        to,
+        b"usage: dialspark [--help] [--exchanged | --verify | --log] [FILE]\n",
+    );
 }
 
 fn is_same(word: &[u8], other: &[u8]) -> bool {
@@ -62,6 +66,7 @@ fn with_wanted(so_far: Asked, wanted: Wanted) -> Asked {
     match so_far {
         Asked::Listing(before, source) => match before {
             Wanted::Line => Asked::Listing(wanted, source),
+            Wanted::Exchanged => one_listing(),
             Wanted::Telegrams => one_listing(),
             Wanted::Blocks => one_listing(),
         },
@@ -73,7 +78,7 @@ fn with_wanted(so_far: Asked, wanted: Wanted) -> Asked {
 fn one_listing() -> Asked {
     io::write_all(
         STDERR_FILENO,
-        b"dialspark: one of --verify and --log, once\n",
+        b"dialspark: one of --exchanged, --verify and --log, once\n",
     );
     Asked::Nothing
 }
@@ -96,6 +101,9 @@ fn with_file(so_far: Asked, place: usize) -> Asked {
 fn with_word(so_far: Asked, word: &[u8], place: usize) -> Asked {
     if is_same(word, b"--help") {
         return Asked::Help;
+    }
+    if is_same(word, b"--exchanged") {
+        return with_wanted(so_far, Wanted::Exchanged);
     }
     if is_same(word, b"--verify") {
         return with_wanted(so_far, Wanted::Blocks);

@@ -12,6 +12,7 @@ use record::Status;
 use record::TimeLayout;
 use telegram::write::Choice;
 use telegram::write::Setting;
+use trailer::Order;
 
 // What a buffer holds before it is lent.
 pub(crate) const UNTOUCHED: u8 = 170;
@@ -139,15 +140,29 @@ pub(crate) fn rec(bytes: &[u8]) -> Record {
     )
 }
 
-// 0 names no setting; else one less has the control characters in bit 0 and the advance in bit 1.
-pub(crate) fn choice(number: u8) -> Choice {
-    if number == 0 {
-        return Choice::Unnamed;
+pub(crate) fn order(number: u8) -> Order {
+    match number {
+        1 => Order::Exchanged,
+        _ => Order::AsPrinted,
     }
-    Choice::Named(Setting {
-        control: number == 2 || number == 4,
-        advance: 3 <= number,
-    })
+}
+
+fn setting(number: u8) -> Setting {
+    Setting {
+        control: number % 2 == 1,
+        advance: 2 <= number,
+    }
+}
+
+// 0 names no setting; 1 to 4 name one without an order, 5 to 8 the same as printed, 9 to 12 exchanged. Of the four the control characters
+// are in bit 0 and the advance in bit 1.
+pub(crate) fn choice(number: u8) -> Choice {
+    match number {
+        0 => Choice::Unnamed,
+        1..=4 => Choice::Named(setting(number - 1)),
+        5..=8 => Choice::NamedIn(setting(number - 5), Order::AsPrinted),
+        _ => Choice::NamedIn(setting((number - 9) % 4), Order::Exchanged),
+    }
 }
 
 fn held(bytes: &[u8]) -> [u8; PLACES] {
@@ -174,8 +189,8 @@ pub(crate) fn wide(n: u8) -> usize {
     n as usize
 }
 
-// A reader is handed in as its places, how many are held, fed, stray and start.
-pub(crate) const STATE_BYTES: usize = PLACES + 13;
+// A reader is handed in as its places, how many are held, fed, stray, start and order.
+pub(crate) const STATE_BYTES: usize = PLACES + 14;
 
 pub(crate) fn reader(bytes: &[u8]) -> Reader {
     Reader {
@@ -184,5 +199,6 @@ pub(crate) fn reader(bytes: &[u8]) -> Reader {
         fed: number_32(behind(bytes, PLACES + 1)),
         stray: number_32(behind(bytes, PLACES + 5)),
         start: number_32(behind(bytes, PLACES + 9)),
+        order: order(byte(bytes, PLACES + 13)),
     }
 }

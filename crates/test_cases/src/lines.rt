@@ -7,6 +7,10 @@ pub(crate) fn fresh() {
     outputs::print_reader(Reader::fresh());
 }
 
+pub(crate) fn fresh_in(bytes: &[u8]) {
+    outputs::print_reader(Reader::fresh_in(inputs::order(inputs::byte(bytes, 0))));
+}
+
 pub(crate) fn is_well_formed(bytes: &[u8]) {
     outputs::print_flag(inputs::reader(bytes).is_well_formed());
 }

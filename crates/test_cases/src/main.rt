@@ -16,8 +16,10 @@
 //   Z        local seconds in UTC: whether it is daylight time, the seconds
 //   U        the UTC seconds of a record
 //   K or k   steps a clock, in place or by value: its record
-//   P        reads a parameter byte
-//   Q        writes a parameter byte: the setting
+//   P        reads a parameter byte of a 6036
+//   Q        writes one: the setting
+//   p        reads a parameter byte of a 6038
+//   s        writes one: the setting
 //   A        takes bytes apart by a row: the row, the bytes
 //   a        lays digits down by a row: the row, the digits, the buffer's length
 //   O        the row of a layout
@@ -25,9 +27,12 @@
 //   I        the record of digits: the layout, the digits
 //   i        the digits of a record
 //   R or r   reads the bytes as one telegram, with or without control characters
+//   Y        reads the bytes as one telegram in a named order: whether with control characters, the order, the bytes
+//   x        the same with every trailer: how many are refused with each number, and the trailers that are read
 //   W        writes one telegram: a choice, the buffer's length, a record
 //   S        writes several one behind another: a choice, the buffer's length, records
 //   f        a fresh reader
+//   g        a fresh reader of a named order
 //   w        whether a reader's state is well formed
 //   F        feeds a reader: its state, a piece
 //   V        uses a piece up: the reader's state, the piece
@@ -49,6 +54,7 @@ mod replies;
 mod request_letters;
 mod rows;
 mod telegrams;
+mod trailers;
 
 use libc::STDIN_FILENO;
 
@@ -72,6 +78,8 @@ fn run(letter: u8, bytes: &[u8]) {
         b'k' => records::step(bytes),
         b'P' => boards::reads(bytes),
         b'Q' => boards::writes(bytes),
+        b'p' => boards::reads_6038(bytes),
+        b's' => boards::writes_6038(bytes),
         b'A' => digits::scans(bytes),
         b'a' => digits::renders(bytes),
         b'O' => digits::row(bytes),
@@ -80,9 +88,12 @@ fn run(letter: u8, bytes: &[u8]) {
         b'i' => digits::digits_out(bytes),
         b'R' => telegrams::reads(bytes, true),
         b'r' => telegrams::reads(bytes, false),
+        b'Y' => telegrams::reads_in(bytes),
+        b'x' => trailers::tries(bytes),
         b'W' => telegrams::writes(bytes),
         b'S' => telegrams::writes_several(bytes),
         b'f' => lines::fresh(),
+        b'g' => lines::fresh_in(bytes),
         b'w' => lines::is_well_formed(bytes),
         b'F' => lines::feeds(bytes),
         b'V' => lines::uses_up(bytes),

@@ -14,6 +14,7 @@ use record::Record;
 use record::RecordAnswer;
 use record::Status;
 use record::TimeLayout;
+use trailer::Order;
 
 pub(crate) fn print(n: u64) {
     io::print_decimal(STDOUT_FILENO, n);
@@ -153,6 +154,13 @@ pub(crate) fn print_heard(heard: Heard) {
     }
 }
 
+fn order_number(order: Order) -> u64 {
+    match order {
+        Order::AsPrinted => 0,
+        Order::Exchanged => 1,
+    }
+}
+
 pub(crate) fn print_reader(reader: Reader) {
     let held = reader.held;
     print_bytes(&held);
@@ -160,6 +168,8 @@ pub(crate) fn print_reader(reader: Reader) {
     print(reader.fed as u64);
     print(reader.stray as u64);
     print(reader.start as u64);
+    let order = reader.order;
+    print(order_number(order));
 }
 
 fn print_slot(slot: Slot) {

@@ -10,6 +10,16 @@ pub(crate) fn reads(bytes: &[u8], control: bool) {
     outputs::print_answer(telegram::read::read(bytes, control));
 }
 
+// Whether with control characters, the order, and the bytes.
+pub(crate) fn reads_in(bytes: &[u8]) {
+    let order = inputs::order(inputs::byte(bytes, 1));
+    outputs::print_answer(telegram::read::read_in(
+        inputs::behind(bytes, 2),
+        inputs::flag(bytes, 0),
+        order,
+    ));
+}
+
 // Writes into the first bytes of a buffer.
 fn write_in(out: &mut [u8], room: usize, rec: Record, choice: Choice) -> WriteAnswer {
     if out.len() < room {

@@ -1,9 +1,12 @@
 // Lists several lines, each cut into pieces as the input says: two bytes for the length of a piece, the higher first, and the
-// piece; 65535 for a length ends a line.
+// piece; 65535 for a length ends a line, and 65534 at the beginning of one says that it is in exchanged order.
 use libc::STDIN_FILENO;
 use printing::Printer;
+use trailer::Order;
 
 const END: u32 = 65535;
+
+const EXCHANGED: u32 = 65534;
 
 // What stands for a length where the input ends.
 const NO_MORE: u32 = 65536;
@@ -58,6 +61,20 @@ fn next_piece(printer: Printer, length: u32) -> Turn {
     }
 }
 
+// Begins a line by its first length, or by the order before that.
+fn begin(length: u32) -> Turn {
+    if length == EXCHANGED {
+        return Turn {
+            printer: Printer::start_in(Order::Exchanged),
+            length: read_length(),
+        };
+    }
+    Turn {
+        printer: Printer::start(),
+        length: length,
+    }
+}
+
 // Ends a line and begins the next, if there is one.
 fn next_line(printer: Printer) -> Turn {
     let ended = printer.end();
@@ -68,10 +85,7 @@ fn next_line(printer: Printer) -> Turn {
             length: NO_MORE,
         };
     }
-    Turn {
-        printer: Printer::start(),
-        length: length,
-    }
+    begin(length)
 }
 
 fn next(printer: Printer, length: u32) -> Turn {
@@ -83,11 +97,13 @@ fn next(printer: Printer, length: u32) -> Turn {
 
 // Nothing says that the input ends, so the turns are counted down from a number that no run uses up.
 fn main() {
-    let mut length = read_length();
-    if length == NO_MORE {
+    let first = read_length();
+    if first == NO_MORE {
         return;
     }
-    let mut printer = Printer::start();
+    let begun = begin(first);
+    let mut printer = begun.printer;
+    let mut length = begun.length;
     let mut turns = u64::MAX;
     while turns > 0 && length != NO_MORE {
         let turn = next(printer, length);

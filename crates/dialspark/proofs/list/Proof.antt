@@ -15,8 +15,8 @@ abbrev μ-loop : tie.MeasureT-loop
 large-buffer-requires : tie.Need-large-buffer-requires Inv-loop μ-loop
 large-buffer-requires c κs = search needs
 
-start-requires : tie.Need-start-requires Inv-loop μ-loop
-start-requires c κs = search needs
+start-in-requires : tie.Need-start-in-requires Inv-loop μ-loop
+start-in-requires c κs = search needs
 
 is-whole-requires : tie.Need-is-whole-requires Inv-loop μ-loop
 is-whole-requires c κs = search needs
@@ -52,7 +52,7 @@ list-spec =
     Inv-loop
     μ-loop
     large-buffer-requires
-    start-requires
+    start-in-requires
     is-whole-requires
     loop-holds
     slice-aggregate-next

@@ -5,10 +5,10 @@ use Rattle.test_lines.proofs.main.Statement.{statement}
 use Rattle.test_lines.proofs.main.Tie as tie
 
 abbrev Inv-loop : tie.InvT-loop
-Inv-loop length₀ printer₀ turns₀ length printer turns = Unit {0}
+Inv-loop first printer₀ length₀ turns₀ printer length turns = Unit {0}
 
 abbrev μ-loop : tie.MeasureT-loop
-μ-loop length₀ printer₀ turns₀ length printer turns = turns
+μ-loop first printer₀ length₀ turns₀ printer length turns = turns
 
 read-length-requires : tie.Need-read-length-requires Inv-loop μ-loop
 read-length-requires c κs = search needs
@@ -16,8 +16,8 @@ read-length-requires c κs = search needs
 returns : tie.Need-returns Inv-loop μ-loop
 returns c = tt
 
-start-requires : tie.Need-start-requires Inv-loop μ-loop
-start-requires c κs = search needs
+begin-requires : tie.Need-begin-requires Inv-loop μ-loop
+begin-requires c κs = search needs
 
 loop-holds : tie.Need-loop-holds Inv-loop μ-loop
 loop-holds c = tt
@@ -48,7 +48,7 @@ main-spec =
     μ-loop
     read-length-requires
     returns
-    start-requires
+    begin-requires
     loop-holds
     next-requires
     sub-turns

@@ -1,0 +1,53 @@
+-- `test_cases::trailers::tally_of` is safe and ends.
+use native.Mathlib.Omega.{arith}
+use borrow.Author.Needs.{needs}
+use mathlib.Core.Path.{_≡_, refl, _∙_}
+use Prim.Native.Nat.{_-_}
+use lib.ListN.{length}
+use Rattle.test_cases.proofs.trailers.tally_of.Statement.{statement}
+use Rattle.test_cases.proofs.trailers.tally_of.Tie as tie
+
+abbrev Inv-loop : tie.InvT-loop
+Inv-loop bytes₀ tried tally₀ pair₀ bytes tally pair = length bytes ≡ length bytes₀
+
+abbrev μ-loop : tie.MeasureT-loop
+μ-loop bytes₀ tried tally₀ pair₀ bytes tally pair = 65536 - pair
+
+loop-holds : tie.Need-loop-holds Inv-loop μ-loop
+loop-holds c = refl
+
+answer-with-requires : tie.Need-answer-with-requires Inv-loop μ-loop
+answer-with-requires c κs = search needs
+
+counted-requires : tie.Need-counted-requires Inv-loop μ-loop
+counted-requires c κs = search needs
+
+add-pair : tie.Need-add-pair Inv-loop μ-loop
+add-pair c = omega arith
+
+loop-less : tie.Need-loop-less Inv-loop μ-loop
+loop-less c = omega arith
+
+loop-again : tie.Need-loop-again Inv-loop μ-loop
+loop-again c = c .before .before .before .answer-with .kept .0 ∙ c .before .before .before .before .before .before .loop .inv
+
+same-length : tie.Need-same-length Inv-loop μ-loop
+same-length c = c .before .loop .inv
+
+returns : tie.Need-returns Inv-loop μ-loop
+returns c = search needs
+
+pub tally-of-spec : {M : Type 1} → statement M
+tally-of-spec =
+    tie.close
+    (tie.spec
+    Inv-loop
+    μ-loop
+    loop-holds
+    answer-with-requires
+    counted-requires
+    add-pair
+    loop-less
+    loop-again
+    same-length
+    returns)
