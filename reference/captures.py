@@ -1,12 +1,13 @@
 """Lines for the program `test_lines`: damaged ones, the samples, and those with a run of stray bytes of each length.
 
 The program gets a line in pieces: two bytes that say how long a piece is, the higher first, and the piece. 65535 for a length ends
-the line, and what follows is a line of its own.
+the line, and what follows is a line of its own. 65534 for a length at a line's beginning says that the line is in exchanged order.
 """
 
 import collections
 import random
 import sys
+from typing import List, NamedTuple
 
 sys.dont_write_bytecode = True  # leaves no files behind
 
@@ -16,15 +17,16 @@ import making
 import samples
 import second_60
 import stray_runs
-from layouts import LAYOUTS
+from layouts import EXCHANGED, LAYOUTS, ORDERS, other_order
 
 SEED = 6036
 LONGEST = 4096   # the program's buffer for a piece
 END = b"\xff\xff"
+EXCHANGED_LINE = b"\xff\xfe"
 
 STX, ETX = b"\x02", b"\x03"
 
-# There have to be so many bytes, and each layout and each refusal that a line can give has to occur so often.
+# In each order there have to be so many bytes, and each layout and each refusal that a line can give has to occur so often.
 BYTES = 300_000
 AT_LEAST = 20
 WANTED = list(LAYOUTS) + [1, 3, 4, 5, 6, 7, 8, 9, 10, 11]
@@ -35,6 +37,20 @@ WANTED_60 = [("dated", 0), ("dated", 5), ("dated", 6), ("dated", 8), ("time-only
 # What has to occur so often among the pieces: see `kinds_of`.
 WANTED_PIECES = ["empty", "one byte", "longest", "ends behind STX", "ends before ETX", "ends behind ETX", "ends inside", "ends outside",
                  "32 events", "more than 32 events"]
+
+# What has to come so often of telegrams in the order that the line does not have.
+WANTED_MIXED = [3, "6021t", "5500t"]
+
+
+class Line(NamedTuple):
+    """A line's order, and the line in pieces."""
+    order: str
+    pieces: List[bytes]
+
+    @property
+    def captured(self):
+        """The whole line."""
+        return b"".join(self.pieces)
 
 
 # --- lines ---
@@ -112,9 +128,10 @@ def pieces_of(dice, captured, cuts):
     return pieces
 
 
-def handed_over(pieces):
+def handed_over(a_line):
     """A line as the program gets it."""
-    return b"".join(len(piece).to_bytes(2, "big") + piece for piece in pieces) + END
+    beginning = EXCHANGED_LINE if a_line.order == EXCHANGED else b""
+    return beginning + b"".join(len(piece).to_bytes(2, "big") + piece for piece in a_line.pieces) + END
 
 
 # --- what has to occur ---
@@ -124,9 +141,9 @@ def kind_of(event):
     return event.outcome if isinstance(event.outcome, int) else event.outcome.layout
 
 
-def kinds_of(pieces):
+def kinds_of(order, pieces):
     """What is worth counting of each piece but the last: its length, what stands on both sides of its end, how many events it has."""
-    state = line.fresh()
+    state = line.fresh(order)
     for piece, following in zip(pieces, pieces[1:]):
         rest, events = piece, 0
         while rest:
@@ -139,21 +156,21 @@ def kinds_of(pieces):
             ("32 events", events == 32), ("more than 32 events", events > 32)) if holds)
 
 
-def seconds_60_of(captured, events):
+def seconds_60_of(a_line, events):
     """What came of each telegram with second 60 or above, and None for each other event."""
+    captured = a_line.captured
     for start, length, result in events:
         refusal = result if isinstance(result, int) else None
-        yield second_60.in_telegram(captured[start:start + length], True, refusal)
+        yield second_60.in_telegram(captured[start:start + length], True, refusal, a_line.order)
 
 
 def check(lines):
     """Fails where there are too few bytes, or where something that has to occur does not occur often enough."""
-    captures = [b"".join(pieces) for pieces in lines]
-    size = sum(map(len, captures))
-    found = [listing.events_of(captured)[0] for captured in captures]
+    size = sum(len(a_line.captured) for a_line in lines)
+    found = [listing.events_of(a_line.captured, a_line.order)[0] for a_line in lines]
     events = collections.Counter(kind_of(event) for some in found for event in some)
-    cuts = collections.Counter(kind for pieces in lines for kind in kinds_of(pieces))
-    seconds = collections.Counter(kind for captured, some in zip(captures, found) for kind in seconds_60_of(captured, some))
+    cuts = collections.Counter(kind for a_line in lines for kind in kinds_of(*a_line))
+    seconds = collections.Counter(kind for a_line, some in zip(lines, found) for kind in seconds_60_of(a_line, some))
     rare = [kind for wanted, there in ((WANTED, events), (WANTED_PIECES, cuts), (WANTED_60, seconds)) for kind in wanted
             if there[kind] < AT_LEAST]
     if rare or size < BYTES or set(events) - set(WANTED) or set(seconds) - {None, *WANTED_60}:
@@ -161,33 +178,62 @@ def check(lines):
                              f"seconds 60 {dict(seconds)}")
 
 
-def damaged_lines(seed=SEED):
-    """Damaged lines and samples, in pieces. The last has none."""
+def changed_by_order(a_line):
+    """What each telegram gives that would have given something else on a line of the other order."""
+    here, there = (listing.events_of(a_line.captured, order)[0] for order in (a_line.order, other_order(a_line.order)))
+    return [kind_of(event) for event, other in zip(here, there, strict=True) if event != other]
+
+
+def check_mixed(lines):
+    """Fails where the order changes too little of what comes of mixed lines, or something that does not depend on it."""
+    changed = collections.Counter(kind for a_line in lines for kind in changed_by_order(a_line))
+    if any(changed[kind] < AT_LEAST for kind in WANTED_MIXED) or set(changed) & {1, 2, 9, 10, 11}:
+        raise AssertionError(f"lines of mixed orders: changed by the order {dict(changed)}")
+
+
+# --- every line ---
+
+def damaged_lines(order, seed):
+    """Damaged lines and samples of an order. The last has no piece."""
     dice = random.Random(seed)
     for cuts, lines, size in CUTS:
         for _ in range(lines):
-            yield pieces_of(dice, damaged_line(dice, size), cuts)
-    for captured in samples.SAMPLES.values():
-        yield pieces_of(dice, captured, by_length)
+            yield Line(order, pieces_of(dice, damaged_line(dice, size, making.in_order(making.some_telegram, order)), cuts))
+    for captured in samples.IN_ORDER[order].values():
+        yield Line(order, pieces_of(dice, captured, by_length))
     for cuts, lines in CUTS_60:
         for _ in range(lines):
-            yield pieces_of(dice, damaged_line(dice, 2500, second_60.some_telegram), cuts)
-    yield []
+            yield Line(order, pieces_of(dice, damaged_line(dice, 2500, making.in_order(second_60.some_telegram, order)), cuts))
+    yield Line(order, [])
 
 
-def lines_with_runs(seed=SEED):
+def mixed_lines(order, seed):
+    """Lines of an order whose telegrams, or some of them, are in the other; and the samples of the other."""
+    dice, other = random.Random(seed), other_order(order)
+    for some in (making.some_telegram, second_60.some_telegram):
+        for telegrams in (making.in_order(some, other), making.in_any_order(some)):
+            for _ in range(3):
+                yield Line(order, pieces_of(dice, damaged_line(dice, 2500, telegrams), by_length))
+    for captured in samples.IN_ORDER[other].values():
+        yield Line(order, pieces_of(dice, captured, by_length))
+
+
+def lines_with_runs(order, seed):
     """Lines with runs of stray bytes. A piece begins at a multiple of 64, so that a place of the line is one of its piece too."""
-    for captured in stray_runs.captures(seed):
-        yield pieces_of(None, captured, nowhere)
+    for captured in stray_runs.captures(seed, order):
+        yield Line(order, pieces_of(None, captured, nowhere))
+
+
+# The lines of each order: what makes them, and what checks those that it made.
+KINDS = [(damaged_lines, check), (mixed_lines, check_mixed), (lines_with_runs, stray_runs.check)]
 
 
 def all_lines(seed=SEED):
-    """Every line, in pieces."""
-    return [*damaged_lines(seed), *lines_with_runs(seed)]
-
-
-def check_all(lines):
-    """Fails where something that has to occur among all lines does not."""
-    damaged = len(lines) - len(stray_runs.LENGTHS)
-    check(lines[:damaged])
-    stray_runs.check([b"".join(pieces) for pieces in lines[damaged:]])
+    """Every line."""
+    every = []
+    for number, order in enumerate(ORDERS):
+        for make, check_made in KINDS:
+            made = list(make(order, seed + number))
+            check_made(made)
+            every += made
+    return every

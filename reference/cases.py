@@ -15,18 +15,21 @@ import listing
 import making
 import manual_examples
 import parameter
+import parameter_6038
 import places
 import records
 import request_letters
 import second_60
 import stray_runs
 import telegrams
+import trailers
 import unnamed
 from days import Date, Time
-from encoding import (LAYOUT_NUMBERS, answer_numbers, case, count_numbers, date_bytes, event_numbers, layout_number, leitch_bytes,
-                      line as printed, parameter_bytes, parameter_numbers, record_bytes, record_numbers, request_numbers, row_bytes,
-                      setting_number, state_bytes, state_numbers)
-from layouts import LAYOUTS, STATUS_AS_5500, STATUS_AS_6021, TIME_ONLY, length
+from encoding import (LAYOUT_NUMBERS, PARITY_NUMBERS, answer_numbers, case, count_numbers, date_bytes, event_numbers, layout_number,
+                      leitch_bytes, line as printed, order_number, parameter_bytes, parameter_bytes_6038, parameter_numbers,
+                      parameter_numbers_6038, record_bytes, record_numbers, request_numbers, row_bytes, setting_number, state_bytes,
+                      state_numbers, trailers_numbers)
+from layouts import AS_PRINTED, EXCHANGED, LAYOUTS, ORDERS, STATUS_AS_5500, STATUS_AS_6021, TIME_ONLY, length, other_order
 from places import CODE, DECIMAL, FIXED, SLOTS, Place
 from records import Dated, LocalSeconds, TimeOnly
 from refusals import DECIMAL_PLACE, FIXED_PLACE, LENGTH, outcome
@@ -37,20 +40,35 @@ SEED = 1996
 UNTOUCHED = 170   # what a lent buffer holds before
 ONE, MANY, ROW = 32, 64, 80   # the program's buffers for one telegram, for several, and for a row
 
-SETTINGS = [None] + [Setting(control, advance) for advance in (False, True) for control in (False, True)]
+SETTINGS = [None] + [Setting(control, advance, order)
+                     for order in (None, *ORDERS) for advance in (False, True) for control in (False, True)]
 
 RECORD = {5, 6, 7, 8}
+READING = {True: {1, 2, 3, 4, 5, 6, 7, 8}, False: {1, 3, 4, 5, 6, 7, 8}}   # with control characters and without
+ON_A_LINE = {1, 3, 4, 5, 6, 7, 8, 9, 10, 15}
 
-# Each entry point by its letter, and the refusals that documents 01 and 02 give to it; each has to occur.
+# How a write is set: without a setting, by one without an order, or by one with an order.
+NO_SETTING, NO_ORDER = "no setting", "no order"
+
+
+def kind_of(setting):
+    """How a write is set."""
+    return NO_SETTING if setting is None else setting.order or NO_ORDER
+
+
+# Each entry point by its letter, and the refusals that documents 01 and 02 give to it; each has to occur. Where an order or a mode
+# belongs to a case, the letter comes with each of them, and each refusal has to occur there.
 OWN_REFUSALS = {
     "D": {6, 7}, "d": {12}, "n": {6, 7, 12}, "M": {6}, "T": {6}, "t": {6}, "h": set(),
     "J": RECORD, "B": set(), "N": RECORD | {12}, "C": RECORD | {12, 14}, "Z": {12}, "U": RECORD | {12, 14},
     "K": RECORD | {12, 14}, "k": RECORD | {12, 14},
-    "P": set(), "Q": {16},
+    "P": set(), "Q": {16}, "p": {16}, "s": {16},
     "A": {3, 4, 5}, "a": set(), "O": set(), "L": {1}, "I": set(), "i": set(),
-    "R": {1, 2, 3, 4, 5, 6, 7, 8}, "r": {1, 3, 4, 5, 6, 7, 8},
-    "W": RECORD | {12, 13, 14}, "S": RECORD | {12, 13, 14},
-    "f": set(), "w": set(), "F": {1, 3, 4, 5, 6, 7, 8, 9, 10, 15}, "V": {1, 3, 4, 5, 6, 7, 8, 9, 10, 15}, "E": {11, 15},
+    "R": READING[True], "r": READING[False], **{(letter, *mode): READING[mode[0]] for letter in "Yx" for mode in trailers.MODES},
+    **{(letter, NO_SETTING): RECORD | {13, 14} for letter in "WS"},
+    **{(letter, kind): RECORD | {12, 13} for letter in "WS" for kind in (NO_ORDER, *ORDERS)},
+    "f": set(), **{(letter, order): refusals for order in ORDERS for letter, refusals in (
+        ("g", set()), ("w", set()), ("F", ON_A_LINE), ("V", ON_A_LINE), ("E", {11, 15}))},
     "H": {13}, "G": RECORD | {13}, "X": {13},
     "y": {6, 7}, "l": {1, 3, 4, 17} | RECORD, "e": RECORD | {13, 17}, "q": {18},
 }
@@ -71,57 +89,70 @@ def time_only(*numbers):
 SECOND_60 = {
     "J": dated(0, 5, 6, 8) | time_only(0, 6), "N": dated(0, 5, 6, 8, 12) | time_only(0, 6),
     **{letter: dated(0, 5, 6, 8, 12) | time_only(6, 14) for letter in "CUKk"},
-    **{letter: dated(0, 5, 6, 8) | time_only(0, 6) for letter in "RrFV"},
-    **{letter: dated(0, 5, 6, 8, 12, 13) | time_only(0, 6, 13, 14) for letter in "WS"},
+    **{kind: dated(0, 5, 6, 8) | time_only(0, 6) for kind in (
+        "R", "r", *(("Y", *mode) for mode in trailers.MODES), *((letter, order) for letter in "FV" for order in ORDERS))},
+    **{(letter, NO_SETTING): dated(0, 5, 6, 8, 13) | time_only(6, 14) for letter in "WS"},
+    **{(letter, kind): dated(0, 5, 6, 8, 12, 13) | time_only(0, 6, 13) for letter in "WS" for kind in (NO_ORDER, *ORDERS)},
     "i": dated(0) | time_only(0), "G": dated(0, 5, 6, 8, 13) | time_only(0, 6, 13),
     "l": dated(5, 6), "e": dated(5, 6),
 }
 
+# Where each layout has to be read in each order.
+READ_IN_ORDERS = [*((letter, *mode) for letter in "Yx" for mode in trailers.MODES),
+                  *((letter, order) for letter in "FV" for order in ORDERS)]
+
 
 class Seen:
-    """How many cases each entry point had, which refusals have occurred there, and what has come of seconds 60 and above."""
+    """How many cases each kind had, which refusals have occurred there, which layouts have been read, and what has come of seconds 60
+    and above. A kind is an entry point's letter, or begins with it."""
 
     def __init__(self):
         self.cases = collections.Counter()
-        self.numbers = {letter: set() for letter in OWN_REFUSALS}
-        self.second_60 = {letter: set() for letter in SECOND_60}
+        self.numbers = {kind: set() for kind in OWN_REFUSALS}
+        self.second_60 = {kind: set() for kind in SECOND_60}
+        self.layouts = {kind: set() for kind in READ_IN_ORDERS}
 
-    def note(self, letter, refusal):
-        self.cases[letter] += 1
-        self.more(letter, refusal)
+    def note(self, kind, refusal):
+        self.cases[kind] += 1
+        self.more(kind, refusal)
 
-    def more(self, letter, refusal):
+    def more(self, kind, refusal):
         """A refusal that is no case of its own."""
         if refusal is not None:
-            self.numbers[letter].add(refusal)
+            self.numbers[kind].add(refusal)
 
-    def record(self, letter, record, refusal):
+    def record(self, kind, record, refusal):
         """A record that a case is about, and what came of it."""
-        self.second_60[letter] |= {second_60.in_record(record, refusal)} - {None}
+        self.second_60[kind] |= {second_60.in_record(record, refusal)} - {None}
 
-    def telegram(self, letter, telegram, control, refusal):
+    def telegram(self, kind, telegram, control, refusal, order=AS_PRINTED):
         """A telegram that a case is about, and what came of it."""
-        self.second_60[letter] |= {second_60.in_telegram(telegram, control, refusal)} - {None}
+        self.second_60[kind] |= {second_60.in_telegram(telegram, control, refusal, order)} - {None}
 
-    def events(self, letter, state, piece, events):
+    def events(self, kind, state, piece, events):
         """The telegrams of a piece's events, of which the state may hold the first bytes."""
         there = line.held_of(state) + piece
         for event in events:
             start = (event.start - state.start) % line.WRAP
             refusal = event.outcome if isinstance(event.outcome, int) else None
-            self.more(letter, refusal)
-            self.telegram(letter, there[start:start + event.length], True, refusal)
+            self.more(kind, refusal)
+            self.telegram(kind, there[start:start + event.length], True, refusal, state.order)
+            if refusal is None:
+                self.layouts[kind].add(event.outcome.layout)
 
     def check(self):
-        """Fails where an entry point has no case, where a refusal never occurred, or one that the entry point does not give did; and
-        where something that can come of a second 60 never did, or something that cannot did."""
-        for letter, wanted in OWN_REFUSALS.items():
-            if not self.cases[letter] or self.numbers[letter] != wanted:
-                raise AssertionError(f"case {letter}: {self.cases[letter]} cases, refusals {sorted(self.numbers[letter])}, "
+        """Fails where a kind has no case, where a refusal never occurred, or one that the entry point does not give did; where
+        something that can come of a second 60 never did, or something that cannot did; and where a layout was never read."""
+        for kind, wanted in OWN_REFUSALS.items():
+            if not self.cases[kind] or self.numbers[kind] != wanted:
+                raise AssertionError(f"case {kind}: {self.cases[kind]} cases, refusals {sorted(self.numbers[kind])}, "
                                      f"wanted {sorted(wanted)}")
-        for letter, wanted in SECOND_60.items():
-            if self.second_60[letter] != wanted:
-                raise AssertionError(f"case {letter}: second 60 {sorted(self.second_60[letter])}, wanted {sorted(wanted)}")
+        for kind, wanted in SECOND_60.items():
+            if self.second_60[kind] != wanted:
+                raise AssertionError(f"case {kind}: second 60 {sorted(self.second_60[kind])}, wanted {sorted(wanted)}")
+        for kind, read in self.layouts.items():
+            if read != set(LAYOUTS):
+                raise AssertionError(f"case {kind}: layouts {sorted(read)}")
 
 
 SEEN = Seen()
@@ -129,17 +160,17 @@ SEEN = Seen()
 
 # --- one case of each kind ---
 
-def answered(letter, given, answer, numbers):
-    """A case whose outcome is a value or a refusal."""
+def answered(kind, given, answer, numbers):
+    """A case whose outcome is a value or a refusal. Its letter is the kind, or the first part of it."""
     value, refusal = answer
-    SEEN.note(letter, refusal)
-    return case(letter, given), printed(answer_numbers(value, refusal, numbers))
+    SEEN.note(kind, refusal)
+    return case(kind[0], given), printed(answer_numbers(value, refusal, numbers))
 
 
-def told(letter, given, numbers):
+def told(kind, given, numbers):
     """A case whose entry point refuses nothing."""
-    SEEN.note(letter, None)
-    return case(letter, given), printed(numbers)
+    SEEN.note(kind, None)
+    return case(kind[0], given), printed(numbers)
 
 
 def one(value):
@@ -154,15 +185,15 @@ def of_record(letter, record, function, numbers):
     return answered(letter, record_bytes(record), answer, numbers)
 
 
-def in_buffer(letter, given, room, size, write, record=None):
+def in_buffer(kind, given, room, size, write, record=None):
     """A case that writes into the first bytes of a buffer, which is printed whole; of a record or an answer, where there is one."""
     buffer = bytearray([UNTOUCHED] * room)
     used, refusal = outcome(write, buffer)
-    SEEN.note(letter, refusal)
+    SEEN.note(kind, refusal)
     if record is not None:
-        SEEN.record(letter, record, refusal)
+        SEEN.record(kind, record, refusal)
     whole = list(buffer) + [UNTOUCHED] * (size - room)
-    return case(letter, given), printed(answer_numbers(used, refusal, one) + whole)
+    return case(kind[0], given), printed(answer_numbers(used, refusal, one) + whole)
 
 
 # Dates and times.
@@ -244,16 +275,26 @@ def step_case(letter, record):
     return case(letter, record_bytes(record)), printed([refusal or 0] + record_numbers(left))
 
 
-# The parameter byte.
+# The parameter bytes.
 
 def parameter_case(byte):
-    """A parameter byte to read."""
+    """A parameter byte of the 6036 to read."""
     return told("P", bytes([byte]), parameter_numbers(parameter.read_parameter(byte)))
 
 
 def setting_case(setting):
-    """A parameter byte to write."""
+    """A parameter byte of the 6036 to write."""
     return answered("Q", parameter_bytes(setting), outcome(parameter.write_parameter, setting), one)
+
+
+def parameter_6038_case(byte):
+    """A parameter byte of the 6038 to read."""
+    return answered("p", bytes([byte]), outcome(parameter_6038.read_parameter, byte), parameter_numbers_6038)
+
+
+def setting_6038_case(setting):
+    """A parameter byte of the 6038 to write."""
+    return answered("s", parameter_bytes_6038(setting), outcome(parameter_6038.write_parameter, setting), one)
 
 
 # Places and layouts.
@@ -300,19 +341,37 @@ def read_case(telegram, control):
     return answered(letter, telegram, answer, record_numbers)
 
 
+def read_in_order_case(telegram, control, order):
+    """A telegram to read in a named order."""
+    kind, answer = ("Y", control, order), outcome(telegrams.read_telegram, telegram, control, order)
+    SEEN.telegram(kind, telegram, control, answer[1], order)
+    if answer[0] is not None:
+        SEEN.layouts[kind].add(answer[0].layout)
+    return answered(kind, bytes([control, order_number(order)]) + telegram, answer, record_numbers)
+
+
+def every_trailer_case(telegram, control, order):
+    """A telegram to read in a named order with every trailer."""
+    kind, (refused, read) = ("x", control, order), trailers.read_with_every_trailer(telegram, control, order)
+    for number, count in enumerate(refused):
+        SEEN.more(kind, number if count else None)
+    SEEN.layouts[kind] |= {layout for _, _, layout in read}
+    return told(kind, bytes([control, order_number(order)]) + telegram, trailers_numbers(refused, read))
+
+
 def write_case(record, setting, room):
     """A record to write into a buffer of so many bytes."""
-    given = bytes([setting_number(setting), room]) + record_bytes(record)
-    return in_buffer("W", given, room, ONE, lambda buffer: telegrams.write_telegram(record, buffer, setting), record)
+    kind, given = ("W", kind_of(setting)), bytes([setting_number(setting), room]) + record_bytes(record)
+    return in_buffer(kind, given, room, ONE, lambda buffer: telegrams.write_telegram(record, buffer, setting), record)
 
 
 def several_case(some, setting, room):
     """Records to write one behind another."""
-    buffer = bytearray([UNTOUCHED] * room)
+    kind, buffer = ("S", kind_of(setting)), bytearray([UNTOUCHED] * room)
     written = telegrams.write_telegrams(some, buffer, setting)
-    SEEN.note("S", written.refusal)
+    SEEN.note(kind, written.refusal)
     for number, record in enumerate(some[:written.stand + 1]):
-        SEEN.record("S", record, written.refusal if number == written.stand else None)
+        SEEN.record(kind, record, written.refusal if number == written.stand else None)
     whole = list(buffer) + [UNTOUCHED] * (MANY - room)
     given = case("S", bytes([setting_number(setting), room]) + b"".join(record_bytes(record) for record in some))
     return given, printed([written.stand, written.used, written.refusal or 0] + whole)
@@ -325,30 +384,35 @@ def fresh_case():
     return told("f", b"", state_numbers(line.fresh()))
 
 
+def fresh_in_order_case(order):
+    """A fresh reader of a named order."""
+    return told(("g", order), bytes([order_number(order)]), state_numbers(line.fresh(order)))
+
+
 def well_formed_case(state):
     """A state that may be well formed."""
-    return told("w", state_bytes(state), [line.well_formed(state)])
+    return told(("w", state.order), state_bytes(state), [line.well_formed(state)])
 
 
 def feed_case(state, piece):
     """A reader to feed. A state that is refused takes nothing and comes back."""
     fed, refusal = outcome(line.feed, state, piece)
-    SEEN.note("F", refusal)
+    SEEN.note(("F", state.order), refusal)
     given = case("F", state_bytes(state) + piece)
     if refusal is not None:
         return given, printed([0, 2, refusal] + state_numbers(state))
-    SEEN.events("F", state, piece, [fed.event] if fed.event else [])
+    SEEN.events(("F", state.order), state, piece, [fed.event] if fed.event else [])
     return given, printed([fed.taken] + event_numbers(fed.event) + state_numbers(fed.state))
 
 
 def use_up_case(state, piece):
     """A piece to use up: the refusal of the state, the bytes taken, the events, the state that is left."""
     passed, refusal = outcome(line.use_up, state, piece)
-    SEEN.note("V", refusal)
+    SEEN.note(("V", state.order), refusal)
     given = case("V", state_bytes(state) + piece)
     if refusal is not None:
         return given, printed([refusal, 0, 0] + state_numbers(state))
-    SEEN.events("V", state, piece, passed.events)
+    SEEN.events(("V", state.order), state, piece, passed.events)
     numbers = [0, passed.taken, len(passed.events)]
     for event in passed.events:
         numbers += event_numbers(event)
@@ -358,11 +422,11 @@ def use_up_case(state, piece):
 def end_case(state):
     """A line to end."""
     ended, refusal = outcome(line.end, state)
-    SEEN.note("E", refusal)
+    SEEN.note(("E", state.order), refusal)
     if refusal is not None:
         return case("E", state_bytes(state)), printed([2, refusal] + state_numbers(state))
     left, event = ended
-    SEEN.more("E", event.outcome if event else None)
+    SEEN.more(("E", state.order), event.outcome if event else None)
     return case("E", state_bytes(state)), printed(event_numbers(event) + state_numbers(left))
 
 
@@ -570,10 +634,10 @@ def time_cases():
                 yield time_range_case(Time(hour, minute, second))
 
 
-# --- the parameter byte ---
+# --- the parameter bytes ---
 
 def parameter_cases():
-    """All 256 bytes, each setting that they make, and settings that the board does not offer."""
+    """The 6036: all 256 bytes, each setting that they make, and settings that the board does not offer."""
     for byte in range(256):
         yield parameter_case(byte)
         yield setting_case(parameter.read_parameter(byte))
@@ -582,6 +646,23 @@ def parameter_cases():
                     {"stop_bits": 255}, {"baud": 0}, {"baud": 110}, {"baud": 151}, {"baud": 19201}, {"baud": 38400},
                     {"baud": 4294967295}, {"data_bits": 9, "baud": 38400}):
         yield setting_case(good._replace(**changed))
+
+
+RATES = [150, 300, 600, 1200, 2400, 4800, 9600, 19200]
+OTHER_RATES = [0, 1, 75, 110, 38400, 57600, 115200, 65535, 65536, 2 ** 31, 2 ** 32 - 1] + [
+    other for rate in RATES for other in (rate - 1, rate + 1, rate + 65536, rate + 2 ** 24)]
+
+
+def parameter_6038_cases():
+    """The 6038: all 256 bytes; every setting that the board offers; and some that it does not, with each field wrong by itself and
+    together with others."""
+    for byte in range(256):
+        yield parameter_6038_case(byte)
+    for fields in itertools.product((7, 8), PARITY_NUMBERS, (1, 2), RATES + OTHER_RATES):
+        yield setting_6038_case(parameter_6038.Parameter(*fields))
+    for data_bits, parity, stop_bits, baud in itertools.product(
+            (0, 1, 2, 3, 5, 6, 7, 8, 9, 255), PARITY_NUMBERS, (0, 1, 2, 3, 5, 7, 8, 9, 255), (9600, 9601, 0, 2 ** 32 - 1, 150)):
+        yield setting_6038_case(parameter_6038.Parameter(data_bits, parity, stop_bits, baud))
 
 
 # --- places and layouts ---
@@ -633,58 +714,59 @@ def layout_cases(dice):
 
 # --- the line ---
 
-def states(dice):
-    """Reader states: well formed ones with any counts, and each clause of the rule broken."""
+def states(dice, order):
+    """Reader states of an order: well formed ones with any counts, and each clause of the rule broken."""
     full = b"\x02" + b"1" * 23
     for fed in (0, 1, 24, 25, 4294967295, dice.randrange(2 ** 32)):
         for held in (b"", b"\x02", b"\x02E312345617", full[:23], full):
-            good = line.with_held(held, fed, dice.choice([0, 7, 4294967295]))
+            good = line.with_held(held, fed, dice.choice([0, 7, 4294967295]), order)
             yield good
             yield good._replace(start=(good.start + 1) % line.WRAP)
             yield good._replace(stray=dice.randrange(2 ** 32))
     for held, size in ((full, 25), (full, 255), (b"1", 1), (b"\x03", 1), (b"\x02\x02", 2), (b"\x02\x03", 2),
                        (full[:23] + b"\x02", 24), (full[:23] + b"\x03", 24), (b"\x021", 1), (b"", 1)):
         places = (list(held) + [0] * 24)[:24]
-        yield line.state_of(places, size, 100, 0, (100 - size) % line.WRAP)
-    yield line.state_of([0] * 23 + [1], 0, 0, 0, 0)
-    yield line.state_of([2] + [0] * 22 + [1], 1, 1, 0, 0)
+        yield line.state_of(places, size, 100, 0, (100 - size) % line.WRAP, order)
+    yield line.state_of([0] * 23 + [1], 0, 0, 0, 0, order)
+    yield line.state_of([2] + [0] * 22 + [1], 1, 1, 0, 0, order)
 
 
-def crowded_piece(dice):
-    """A piece with more events than are handed on at a time, or about as many: each STX behind another gives one, and so does an
-    ETX behind an STX."""
+def crowded_piece(dice, some):
+    """A piece with more events than are handed on at a time, or about as many, between telegrams of some kind: each STX behind another
+    gives one, and so does an ETX behind an STX."""
     crowd = dice.choice([b"\x02", b"\x02\x03"]) * dice.choice([*range(30, 36), 64, 65, 66, dice.randrange(100, 1000)])
-    return making.random_line(dice) + crowd + making.random_line(dice)
+    return making.random_line(dice, some) + crowd + making.random_line(dice, some)
 
 
-def line_cases(dice):
-    """Every state with an empty piece, with each byte that means something, with telegrams, and at the line's end."""
-    yield fresh_case()
-    for state in states(dice):
+def line_cases(dice, order, rounds):
+    """Every state of an order with an empty piece, with each byte that means something, with telegrams of that order, and at the
+    line's end."""
+    some = making.in_order(making.some_telegram, order)
+    for state in states(dice, order):
         yield well_formed_case(state)
         yield end_case(state)
         for piece in (b"", b"\x02", b"\x03", b"x", b"xx\x02", b"1" * 30):
             yield feed_case(state, piece)
             yield use_up_case(state, piece)
         for _ in range(6):
-            yield feed_case(state, making.random_line(dice)[:200])
+            yield feed_case(state, making.random_line(dice, some)[:200])
         for _ in range(3):
-            yield use_up_case(state, making.random_line(dice))
-        yield use_up_case(state, crowded_piece(dice))
-    for _ in range(500):
-        yield feed_case(line.fresh(), making.some_telegram(dice, True))
-        yield use_up_case(line.fresh(), making.some_telegram(dice, True))
-    for piece in [b"x" * 8000, b"x" * 4000 + b"\x02" * 4000] + [crowded_piece(dice) for _ in range(50)]:
-        yield feed_case(line.fresh(), piece)
-        yield use_up_case(line.fresh(), piece)
+            yield use_up_case(state, making.random_line(dice, some))
+        yield use_up_case(state, crowded_piece(dice, some))
+    for _ in range(rounds):
+        yield feed_case(line.fresh(order), some(dice, True))
+        yield use_up_case(line.fresh(order), some(dice, True))
+    for piece in [b"x" * 8000, b"x" * 4000 + b"\x02" * 4000] + [crowded_piece(dice, some) for _ in range(rounds // 10)]:
+        yield feed_case(line.fresh(order), piece)
+        yield use_up_case(line.fresh(order), piece)
 
 
-def stray_run_cases(dice):
-    """A run of stray bytes of each length, alone and before a telegram, fed to a reader whose two counts wrap in it or at the byte
-    behind it."""
+def stray_run_cases(dice, order):
+    """A run of stray bytes of each length, alone and before a telegram of an order, fed to a reader whose two counts wrap in it or at
+    the byte behind it."""
     for length in stray_runs.LENGTHS:
-        run, telegram = stray_runs.run_of(dice, length), making.some_telegram(dice, True)
-        state = line.with_held(b"", *(line.WRAP - 1 - dice.randrange(length + 1) for _ in range(2)))
+        run, telegram = stray_runs.run_of(dice, length), making.some_telegram(dice, True, order)
+        state = line.with_held(b"", *(line.WRAP - 1 - dice.randrange(length + 1) for _ in range(2)), order)
         for piece in (run, run + b"\x02", run + telegram):
             yield feed_case(state, piece)
         yield use_up_case(state, run + telegram + run)
@@ -761,23 +843,28 @@ def second_60_cases(dice):
     for _ in range(150):
         control = dice.random() < 0.5
         yield read_case(second_60.some_telegram(dice, control), control)
-        yield feed_case(line.fresh(), second_60.some_telegram(dice, True))
 
 
-def second_60_on_lines(dice):
-    """Written into short buffers; several one behind another; pieces with telegrams of them, also behind a state that holds the first
-    bytes."""
+def second_60_written(dice):
+    """Written into short buffers, and several one behind another."""
     yield from writes_around_the_edge(second_60.one_of_each())
     yield from writes_of_bad_records(second_60.bad_ones())
     for _ in range(120):
         some = [second_60.any_by_dice(dice) for _ in range(dice.randrange(1, 4))]
         yield several_case([second_60.good_by_dice(dice), *some], dice.choice(SETTINGS), dice.choice([MANY, dice.randrange(MANY + 1)]))
+
+
+def second_60_on_lines(dice, order):
+    """Telegrams of them in an order, and pieces with some, also behind a state that holds the first bytes."""
+    some = making.in_order(second_60.some_telegram, order)
+    for _ in range(150):
+        yield feed_case(line.fresh(order), some(dice, True))
     for _ in range(100):
-        piece = making.random_line(dice, second_60.some_telegram)[:300]
-        yield use_up_case(line.fresh(), piece)
-        telegram = second_60.some_telegram(dice, True)
+        piece = making.random_line(dice, some)[:300]
+        yield use_up_case(line.fresh(order), piece)
+        telegram = some(dice, True)
         cut = dice.randrange(1, 9)
-        yield use_up_case(line.with_held(telegram[:cut], dice.randrange(2 ** 32), 0), telegram[cut:] + piece[:50])
+        yield use_up_case(line.with_held(telegram[:cut], dice.randrange(2 ** 32), 0, order), telegram[cut:] + piece[:50])
 
 
 def of_every_kind(record):
@@ -850,10 +937,10 @@ def several_unnamed(dice):
             yield several_case([*good_ones(before), record, *good_ones(1)], None, room)
 
 
-def fed_in_turn(pieces):
+def fed_in_turn(pieces, order):
     """A line in pieces from a fresh reader on: each fed until it is used up, every call to the state that the one before has left;
     then the line's end."""
-    state = line.fresh()
+    state = line.fresh(order)
     for piece in pieces:
         while True:
             yield feed_case(state, piece)
@@ -864,9 +951,9 @@ def fed_in_turn(pieces):
     yield end_case(state)
 
 
-def used_up_in_turn(pieces):
+def used_up_in_turn(pieces, order):
     """The same pieces with as many events at a call as are handed on at a time."""
-    state = line.fresh()
+    state = line.fresh(order)
     for piece in pieces:
         while piece:
             yield use_up_case(state, piece)
@@ -874,11 +961,18 @@ def used_up_in_turn(pieces):
             piece = piece[taken:]
 
 
-def on_a_line(captured, *cuts):
+def on_a_line(captured, *cuts, order=AS_PRINTED):
     """A line that is cut at these places, by both calls."""
     pieces = [captured[start:end] for start, end in zip([0, *cuts], [*cuts, len(captured)])]
-    yield from fed_in_turn(pieces)
-    yield from used_up_in_turn(pieces)
+    yield from fed_in_turn(pieces, order)
+    yield from used_up_in_turn(pieces, order)
+
+
+def cut_everywhere(captured, order=AS_PRINTED):
+    """A line whole, and cut at each place."""
+    yield from on_a_line(captured, order=order)
+    for cut in range(1, len(captured)):
+        yield from on_a_line(captured, cut, order=order)
 
 
 def unnamed_on_lines(dice):
@@ -886,15 +980,12 @@ def unnamed_on_lines(dice):
     anywhere, also more than are handed on at a time. Bare telegrams, on lines of their own, are stray bytes all through."""
     dated_ones = [record for record in [*one_of_each(), *second_60.one_of_each()] if not records.is_time_only(record)]
     for record in [*unnamed.METER_RECORDS] + dated_ones:
-        captured = unnamed.written([record])
-        yield from on_a_line(captured)
-        for cut in range(1, len(captured)):
-            yield from on_a_line(captured, cut)
+        yield from cut_everywhere(unnamed.written([record]))
     for number in [2, 3, 4] * 6:
         captured = unnamed.written([unnamed.good_by_dice(dice) for _ in range(number)])
         yield from on_a_line(captured)
         yield from on_a_line(captured, *sorted(dice.sample(range(1, len(captured)), dice.randrange(1, 5))))
-    yield from used_up_in_turn([unnamed.written([unnamed.good_by_dice(dice) for _ in range(line.AT_A_TIME + 3)])])
+    yield from used_up_in_turn([unnamed.written([unnamed.good_by_dice(dice) for _ in range(line.AT_A_TIME + 3)])], AS_PRINTED)
     for record in unnamed.METER_RECORDS:
         yield from on_a_line(telegrams.telegram_of(record, False))
 
@@ -906,6 +997,72 @@ def unnamed_cases(dice):
     yield from unnamed_writes()
     yield from several_unnamed(dice)
     yield from unnamed_on_lines(dice)
+
+
+# --- the order of the trailer ---
+
+def reads_in_order(dice, control, order):
+    """Telegrams for one mode: the examples of the manuals as they are and with their trailers exchanged; good and wrong ones; good
+    ones with right and wrong trailers; bytes of every length; damaged ones of this order, and of either."""
+    for example in manual_examples.EXAMPLES:
+        telegram = example.telegram if control else without_frame(example.telegram)
+        yield telegram
+        yield trailers.exchanged(telegram, control)
+    yield from trailers.good_ones(control, order)
+    yield from (telegram for telegram, _ in trailers.wrong_ones(control, order))
+    for body, trailer in itertools.product(trailers.GOOD.values(), (*trailers.TRAILERS, *trailers.OTHERS)):
+        yield trailers.framed(body + trailer, control)
+    for size in trailers.LENGTHS:
+        yield trailers.of_length(dice, size, control, order)
+        yield from (trailers.filler(dice, size, control) for _ in range(2))
+    yield from (trailers.filler(dice, size, control) for size in trailers.LONG)
+    yield from (making.some_telegram(dice, control, order) for _ in range(400))
+    yield from (making.in_any_order(making.some_telegram)(dice, control) for _ in range(150))
+    yield from (second_60.some_telegram(dice, control, order) for _ in range(100))
+
+
+def order_reads(dice):
+    """Telegrams read in each mode, and with every trailer; good seconds 60 in the modes in turn."""
+    for control, order in trailers.MODES:
+        for telegram in reads_in_order(dice, control, order):
+            yield read_in_order_case(telegram, control, order)
+    for record, (control, order) in zip(second_60.good_by_hand(), itertools.cycle(trailers.MODES)):
+        yield read_in_order_case(telegrams.telegram_of(record, control, order), control, order)
+    for telegram, control, order in trailers.with_every_trailer(dice):
+        yield every_trailer_case(telegram, control, order)
+
+
+def order_writes(dice):
+    """Writes with each named setting, of one record and of several: good ones, ones with second 60, the calendar's last second, bad
+    ones of each number behind a good one; into buffers that are mostly long enough."""
+    last = Dated("2000", "radio", False, False, True, 7, 23, 59, 59, 31, 12, 2079)
+    shown = [*one_of_each(), *second_60.one_of_each(), last, last._replace(second=60),
+             *unnamed.bad_of_each_number(), *second_60.bad_ones()]
+    for setting in SETTINGS[1:]:
+        for record in shown:
+            yield write_case(record, setting, ONE)
+            yield several_case([making.good_record(dice), record, making.good_record(dice)], setting, dice.choice([MANY, MANY, 40]))
+        for record in [making.any_record(dice) for _ in range(20)] + [second_60.any_by_dice(dice) for _ in range(10)]:
+            yield write_case(record, setting, dice.choice([ONE, ONE, dice.randrange(ONE + 1)]))
+
+
+def order_lines(dice):
+    """What as-printed lines have had, for exchanged ones; each layout's telegrams cut at each place; and lines whose telegrams are in
+    either order, or in the order that the line does not have."""
+    for order in ORDERS:
+        yield fresh_in_order_case(order)
+    yield from line_cases(dice, EXCHANGED, 300)
+    yield from second_60_on_lines(dice, EXCHANGED)
+    yield from stray_run_cases(dice, EXCHANGED)
+    for telegram in trailers.good_ones(True, EXCHANGED):
+        yield from cut_everywhere(telegram, EXCHANGED)
+    for order in ORDERS:
+        yield from on_a_line(b"".join(trailers.good_ones(True, other_order(order))), order=order)
+        for _ in range(100):
+            yield feed_case(line.fresh(order), making.some_telegram(dice, True, other_order(order)))
+            yield use_up_case(line.fresh(order), making.random_line(dice, making.in_any_order(making.some_telegram)))
+    for record in unnamed.METER_RECORDS:
+        yield from on_a_line(unnamed.written([record]), order=EXCHANGED)
 
 
 def all_cases(seed=SEED):
@@ -923,11 +1080,17 @@ def all_cases(seed=SEED):
     yield from writes_of_bad_records(bad_records())
     yield from writes_by_dice(dice)
     yield from several_by_dice(dice)
-    yield from line_cases(dice)
+    yield fresh_case()
+    yield from line_cases(dice, AS_PRINTED, 500)
     yield from row_cases(dice)
     yield from other_row_cases(dice)
     yield from leitch_and_request_cases(dice)
     yield from second_60_cases(dice)
-    yield from second_60_on_lines(dice)
-    yield from stray_run_cases(dice)
+    yield from second_60_written(dice)
+    yield from second_60_on_lines(dice, AS_PRINTED)
+    yield from stray_run_cases(dice, AS_PRINTED)
     yield from unnamed_cases(dice)
+    yield from parameter_6038_cases()
+    yield from order_reads(dice)
+    yield from order_writes(dice)
+    yield from order_lines(dice)

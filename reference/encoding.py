@@ -4,7 +4,7 @@ A case is a letter, a length of two bytes, the higher first, and that many bytes
 behind it: a refusal is its number, and anything else is 0 and its values. The heads of the program's files say the same.
 """
 
-from layouts import TIME_ONLY
+from layouts import ORDERS, TIME_ONLY
 from places import CODE, DECIMAL, FIXED
 from records import UtcSeconds, is_time_only
 from request_letters import TIME, TIME_AND_DATE, UTC_TIME_AND_DATE
@@ -47,21 +47,35 @@ def record_bytes(record):
     return bytes(head + flags + [record.weekday]) + date_bytes(record) + bytes(time)
 
 
+def order_number(order):
+    """0 as printed, 1 exchanged."""
+    return ORDERS.index(order)
+
+
 def setting_number(setting):
-    """0 for no setting; else one more than the control characters in bit 0 and the advance in bit 1."""
-    return 0 if setting is None else 1 + setting.control_characters + 2 * setting.second_advance
+    """0 for no setting; else one more than the control characters in bit 0 and the advance in bit 1; 4 more where the order is named
+    as printed, 8 more where it is exchanged."""
+    if setting is None:
+        return 0
+    named = 0 if setting.order is None else 4 + 4 * order_number(setting.order)
+    return 1 + setting.control_characters + 2 * setting.second_advance + named
 
 
 def state_bytes(state):
-    """37 bytes: the places, how many are held, fed, stray, start."""
+    """38 bytes: the places, how many are held, fed, stray, start, the order."""
     counts = b"".join(count.to_bytes(4, "big") for count in (state.fed, state.stray, state.start))
-    return bytes(state.places) + bytes([state.length]) + counts
+    return bytes(state.places) + bytes([state.length]) + counts + bytes([order_number(state.order)])
+
+
+def parameter_bytes_6038(parameter):
+    """Seven bytes: data bits, parity, stop bits, baud."""
+    parity = PARITY_NUMBERS.index(parameter.parity)
+    return bytes([parameter.data_bits, parity, parameter.stop_bits]) + parameter.baud.to_bytes(4, "big")
 
 
 def parameter_bytes(parameter):
-    """Eight bytes: UTC, data bits, parity, stop bits, baud."""
-    parity = PARITY_NUMBERS.index(parameter.parity)
-    return bytes([parameter.utc, parameter.data_bits, parity, parameter.stop_bits]) + parameter.baud.to_bytes(4, "big")
+    """Eight bytes: UTC, and what the 6038 has too."""
+    return bytes([parameter.utc]) + parameter_bytes_6038(parameter)
 
 
 def leitch_bytes(answer):
@@ -111,14 +125,25 @@ def event_numbers(event):
 
 
 def state_numbers(state):
-    """A reader's places and counts."""
-    return list(state.places) + [state.length, state.fed, state.stray, state.start]
+    """A reader's places and counts, and its order."""
+    return list(state.places) + [state.length, state.fed, state.stray, state.start, order_number(state.order)]
+
+
+def parameter_numbers_6038(parameter):
+    """The fields of a parameter byte of the 6038."""
+    return [parameter.data_bits, PARITY_NUMBERS.index(parameter.parity), parameter.stop_bits, parameter.baud]
 
 
 def parameter_numbers(parameter):
-    """The fields of a parameter byte."""
-    parity = PARITY_NUMBERS.index(parameter.parity)
-    return [parameter.utc, parameter.data_bits, parity, parameter.stop_bits, parameter.baud]
+    """The fields of one of the 6036: UTC, and what the 6038 has too."""
+    return [parameter.utc] + parameter_numbers_6038(parameter)
+
+
+def trailers_numbers(refused, read):
+    """What became of every trailer: how many had each of the refusals 1 to 8, and the two bytes and the layout of each that was
+    read."""
+    return [refused[number] for number in range(1, 9)] + [part for first, second, layout in read
+                                                          for part in (first, second, layout_number(layout))]
 
 
 def request_numbers(request):

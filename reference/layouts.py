@@ -1,9 +1,11 @@
 """The seven layouts as data: one row of places each, what stands between STX and ETX.
 
-A place is a fixed byte (a number), a decimal place (Decimal), STATUS or WEEKDAY.
+A place is a fixed byte (a number), a decimal place (Decimal), STATUS or WEEKDAY. The last two places of a row are the trailer, CR and
+LF; they stand as printed, or exchanged on a line of that order.
 """
 
 import functools
+import operator
 from typing import NamedTuple
 
 STX, ETX = 0x02, 0x03
@@ -11,6 +13,8 @@ LF, CR, SPACE = 0x0A, 0x0D, 0x20
 
 STATUS = "status"
 WEEKDAY = "weekday"
+
+AS_PRINTED, EXCHANGED = ORDERS = ("as-printed", "exchanged")
 
 
 class Decimal(NamedTuple):
@@ -54,9 +58,34 @@ def is_decimal(place):
     return isinstance(place, Decimal)
 
 
-# The fixed and the decimal places of each layout, with where they stand.
-FIXED_AT, DECIMALS_AT = ({layout: [(at, place) for at, place in enumerate(row) if holds(place)] for layout, row in LAYOUTS.items()}
-                         for holds in (is_fixed, is_decimal))
+def other_order(order):
+    """As-printed for exchanged, and exchanged for as-printed."""
+    return AS_PRINTED if order == EXCHANGED else EXCHANGED
+
+
+def row_in(layout, order):
+    """A layout's row on a line of that order: exchanged, its two trailer places have changed places."""
+    row = LAYOUTS[layout]
+    return row if order == AS_PRINTED else (*row[:-2], row[-1], row[-2])
+
+
+def places_that(holds, row):
+    """Some places of a row, with where they stand."""
+    return [(at, place) for at, place in enumerate(row) if holds(place)]
+
+
+# The fixed places of each layout in each order, and its decimal places, which are the same in both.
+FIXED_AT = {(layout, order): places_that(is_fixed, row_in(layout, order)) for layout in LAYOUTS for order in ORDERS}
+DECIMALS_AT = {layout: places_that(is_decimal, row) for layout, row in LAYOUTS.items()}
+
+
+def picker(places):
+    """What picks the bytes at some places, and the bytes that belong there."""
+    at, belonging = zip(*places)
+    return operator.itemgetter(*at), belonging
+
+
+FIXED_PICKER = {key: picker(places) for key, places in FIXED_AT.items()}
 
 
 def length(layout, control_characters):
@@ -66,5 +95,5 @@ def length(layout, control_characters):
 
 @functools.cache
 def layouts_of_length(number_of_bytes, control_characters):
-    """The layouts of a length: mostly one, two time-only ones at 10 (8), else none."""
+    """The layouts of a length, in any order of the trailer: mostly one, two time-only ones at 10 (8), else none."""
     return [layout for layout in LAYOUTS if length(layout, control_characters) == number_of_bytes]

@@ -2,10 +2,10 @@
 
 from typing import NamedTuple, Optional, Tuple, Union
 
-from layouts import ETX, STX
+from layouts import AS_PRINTED, ETX, STX
 from records import Dated, TimeOnly
 from refusals import ENDED_INSIDE, STATE, STX_INSIDE, TOO_LONG, Refused
-from telegrams import read_telegram
+from telegrams import judged
 
 PLACES = 24
 AT_A_TIME = 32   # the most events that are handed on at a time
@@ -13,12 +13,13 @@ WRAP = 2 ** 32
 
 
 class State(NamedTuple):
-    """24 byte places of which the first `length` are held, and the free running counts."""
+    """24 byte places of which the first `length` are held, the free running counts, and the line's order."""
     places: Tuple[int, ...]
     length: int
     fed: int
     stray: int
     start: int
+    order: str
 
 
 class Event(NamedTuple):
@@ -42,14 +43,14 @@ class Passed(NamedTuple):
     events: Tuple[Event, ...]
 
 
-def state_of(places, length, fed, stray, start):
+def state_of(places, length, fed, stray, start, order=AS_PRINTED):
     """A state from its parts, well formed or not."""
-    return State(tuple(places), length, fed, stray, start)
+    return State(tuple(places), length, fed, stray, start, order)
 
 
-def fresh():
+def fresh(order=AS_PRINTED):
     """Holds nothing, all counts 0."""
-    return state_of([0] * PLACES, 0, 0, 0, 0)
+    return state_of([0] * PLACES, 0, 0, 0, 0, order)
 
 
 # --- well formed ---
@@ -81,7 +82,7 @@ def start_is_fed_less_held(state):
 
 
 def well_formed(state):
-    """All four clauses."""
+    """All four clauses. None is about the order."""
     return (at_most_24_held(state) and begins_with_its_only_stx(state)
             and zero_beyond(state) and start_is_fed_less_held(state))
 
@@ -94,10 +95,10 @@ def check_state(state):
 
 # --- the moves a reader makes ---
 
-def with_held(held, fed, stray):
+def with_held(held, fed, stray, order=AS_PRINTED):
     """The well formed state that holds these bytes."""
     places = list(held) + [0] * (PLACES - len(held))
-    return state_of(places, len(held), fed, stray, (fed - len(held)) % WRAP)
+    return state_of(places, len(held), fed, stray, (fed - len(held)) % WRAP, order)
 
 
 def event_of(state, length, outcome):
@@ -105,19 +106,17 @@ def event_of(state, length, outcome):
     return Event(state.start, length, outcome)
 
 
-def judged(telegram):
-    """The record of an ended telegram, or the number it is refused with."""
-    try:
-        return read_telegram(telegram, True)
-    except Refused as refused:
-        return refused.number
+def outcome_of(telegram, order):
+    """The record of an ended telegram in the line's order, or the number it is refused with."""
+    record, number = judged(telegram, True, order)
+    return record if number is None else number
 
 
 def take_outside(state, byte, fed):
     """Outside a telegram STX begins one, any other byte is stray."""
     if byte == STX:
-        return with_held([STX], fed, state.stray), None
-    return with_held([], fed, (state.stray + 1) % WRAP), None
+        return with_held([STX], fed, state.stray, state.order), None
+    return with_held([], fed, (state.stray + 1) % WRAP, state.order), None
 
 
 def take_inside(state, byte, fed):
@@ -125,13 +124,13 @@ def take_inside(state, byte, fed):
     is held, or is the 25th and one too many."""
     held = held_of(state)
     if byte == ETX:
-        return (with_held([], fed, state.stray),
-                event_of(state, len(held) + 1, judged(held + bytes([ETX]))))
+        return (with_held([], fed, state.stray, state.order),
+                event_of(state, len(held) + 1, outcome_of(held + bytes([ETX]), state.order)))
     if byte == STX:
-        return with_held([STX], fed, state.stray), event_of(state, len(held), STX_INSIDE)
+        return with_held([STX], fed, state.stray, state.order), event_of(state, len(held), STX_INSIDE)
     if len(held) == PLACES:
-        return with_held([], fed, state.stray), event_of(state, len(held) + 1, TOO_LONG)
-    return with_held(held + bytes([byte]), fed, state.stray), None
+        return with_held([], fed, state.stray, state.order), event_of(state, len(held) + 1, TOO_LONG)
+    return with_held(held + bytes([byte]), fed, state.stray, state.order), None
 
 
 def take(state, byte):
@@ -156,7 +155,7 @@ def end(state):
     """The line's end: the state outside, and 11 for the bytes held if any; or 15."""
     check_state(state)
     event = event_of(state, state.length, ENDED_INSIDE) if state.length else None
-    return with_held([], state.fed, state.stray), event
+    return with_held([], state.fed, state.stray, state.order), event
 
 
 def use_up(state, piece):

@@ -1,10 +1,11 @@
-"""The listing of a captured line. Run as a program it lists its standard input."""
+"""The listing of a captured line. Run as a program it lists its standard input, with --exchanged as a line of exchanged order."""
 
 import sys
 
 sys.dont_write_bytecode = True  # leaves no files behind
 
 import line
+from layouts import AS_PRINTED, EXCHANGED
 from records import check_record, is_time_only
 from refusals import BUFFER, Refused
 
@@ -74,9 +75,9 @@ def write_stray(stray, buffer):
 # --- a whole line ---
 
 
-def events_of(captured):
-    """All events of a whole line, the end's with them, and the state after it."""
-    state, events, rest = line.fresh(), [], memoryview(bytes(captured))
+def events_of(captured, order=AS_PRINTED):
+    """All events of a whole line of that order, the end's with them, and the state after it."""
+    state, events, rest = line.fresh(order), [], memoryview(bytes(captured))
     while rest:
         state, taken, event = line.feed(state, rest)
         rest = rest[taken:]
@@ -88,11 +89,13 @@ def events_of(captured):
     return events, state
 
 
-def listing(captured):
-    """The whole listing of a captured line."""
-    events, state = events_of(captured)
+def listing(captured, order=AS_PRINTED):
+    """The whole listing of a captured line of that order."""
+    events, state = events_of(captured, order)
     return HEADER + b"".join(row(event) for event in events) + stray_row(state.stray)
 
 
 if __name__ == "__main__":
-    sys.stdout.buffer.write(listing(sys.stdin.buffer.read()))
+    if sys.argv[1:] not in ([], ["--exchanged"]):
+        sys.exit("usage: listing.py [--exchanged]")
+    sys.stdout.buffer.write(listing(sys.stdin.buffer.read(), EXCHANGED if sys.argv[1:] else AS_PRINTED))

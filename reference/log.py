@@ -1,6 +1,7 @@
 """The delivery log: accepted telegrams in blocks of 512 bytes, over a region of whole blocks that the caller lends.
 
-A block has 15 slots of 32 bytes, then the number of slots used, zeros, and a check. Blocks and slots are counted from 0.
+A block has 15 slots of 32 bytes, then the number of slots used, zeros, and a check. Blocks and slots are counted from 0. Telegrams
+are in as-printed order only.
 """
 
 import functools
@@ -74,7 +75,7 @@ def lengths_fit(block):
 
 @functools.lru_cache(maxsize=4096)
 def reads_well(telegram):
-    """A telegram that is accepted, with control characters."""
+    """A telegram that is accepted, with control characters, as printed."""
     return outcome(read_telegram, telegram, True)[1] is None
 
 

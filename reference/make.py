@@ -28,9 +28,8 @@ def made():
     yield "crates/test_cases/stdin", b"".join(given for given, _ in every)
     yield "crates/test_cases/stdout", b"".join(expected for _, expected in every)
     lines = captures.all_lines()
-    captures.check_all(lines)
-    yield "crates/test_lines/stdin", b"".join(captures.handed_over(pieces) for pieces in lines)
-    yield "crates/test_lines/stdout", b"".join(listing.listing(b"".join(pieces)) for pieces in lines)
+    yield "crates/test_lines/stdin", b"".join(map(captures.handed_over, lines))
+    yield "crates/test_lines/stdout", b"".join(listing.listing(a_line.captured, a_line.order) for a_line in lines)
     scripts = list(log_scripts.all_scripts())
     log_scripts.check(scripts)
     steps = log_scripts.steps_of(scripts)
@@ -43,9 +42,10 @@ def made():
     yield "crates/measured/stdout", measured.printed(measured.GIVEN)
     yield "crates/dialspark/stdin", samples.PRINTED
     yield "crates/dialspark/stdout", listing.listing(samples.PRINTED)
-    for name, captured in samples.SAMPLES.items():
-        yield f"samples/{name}.capture", captured
-        yield f"samples/{name}.listing", listing.listing(captured)
+    for order, captured_ones in samples.IN_ORDER.items():
+        for name, captured in captured_ones.items():
+            yield f"samples/{name}.capture", captured
+            yield f"samples/{name}.listing", listing.listing(captured, order)
     for name, kept in sample_logs.LOGS.items():
         yield f"samples/{name}.log", kept
         yield f"samples/{name}.verify", log_listing.verify_listing(kept)

@@ -5,6 +5,7 @@ import layouts
 import records
 import status
 import telegrams
+from layouts import AS_PRINTED, ORDERS
 from records import Dated, TimeOnly
 
 STX = b"\x02"
@@ -54,10 +55,10 @@ def any_record(dice):
 
 # --- telegrams ---
 
-def telegram_of(record, control):
+def telegram_of(record, control, order=AS_PRINTED):
     """A good record as it is written."""
     buffer = bytearray(layouts.length(record.layout, control))
-    telegrams.write_telegram(record, buffer, telegrams.Setting(control, False))
+    telegrams.write_telegram(record, buffer, telegrams.Setting(control, False, order))
     return bytes(buffer)
 
 
@@ -87,13 +88,23 @@ def with_a_late_day(dice, telegram, layout, control):
     return bytes(telegram)
 
 
-def some_telegram(dice, control):
+def some_telegram(dice, control, order=AS_PRINTED):
     """A telegram of any layout: whole, damaged, or with a late day."""
     record = good_record(dice)
-    telegram, kind = telegram_of(record, control), dice.random()
+    telegram, kind = telegram_of(record, control, order), dice.random()
     if kind < 0.6:
         return damaged(dice, telegram)
     return with_a_late_day(dice, telegram, record.layout, control) if kind < 0.75 else telegram
+
+
+def in_order(some, order):
+    """Telegrams of some kind in that order."""
+    return lambda dice, control: some(dice, control, order)
+
+
+def in_any_order(some):
+    """Telegrams of some kind, each in either order."""
+    return lambda dice, control: some(dice, control, dice.choice(ORDERS))
 
 
 # --- lines ---

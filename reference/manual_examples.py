@@ -313,8 +313,9 @@ EXAMPLES = (IN_LAYOUTS + OTHER_STRINGS + BOARD_COMMANDS + SPELLED_OUT_COMMANDS
             + REMOTE_COMMANDS + BUILT_FROM_TABLES)
 
 # The one example of a parameter byte: printed for the 6036 in 000 and 004, section 2, and for
-# the 6038 in 003, section 1.1, whose switches mean something else.
+# the 6038, whose switches mean something else, in 003, section 1.1.
 PARAMETER_EXAMPLES = [("000", "2", 0xA6), ("004", "2", 0xA6)]
+PARAMETER_EXAMPLES_6038 = [("003", "1.1", 0xA6)]
 
 
 # --- what they read as ---

@@ -11,7 +11,7 @@ import days
 from days import Date, Time
 from layouts import TIME_ONLY
 from refusals import (CALENDAR, NO_DATE, NO_SUCH_DAY, RANGE, STATUS_OR_WEEKDAY, WEEKDAY,
-                      Refused, check, outcome)
+                      Refused, check, lowest, outcome)
 from status import Flags, flags_allowed
 
 STANDARD_SHIFT = 3600
@@ -154,6 +154,11 @@ RECORD_CONDITIONS = (
     (NO_SUCH_DAY, no_such_day),
     (WEEKDAY, weekday_disagrees),
 )
+
+
+def refusal_of(record):
+    """The lowest of 5 to 8 that holds for a record, or None for a good one."""
+    return lowest(RECORD_CONDITIONS, record)
 
 
 def check_record(record):

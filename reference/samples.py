@@ -1,6 +1,6 @@
 """Short captures that tell a story each, for samples/."""
 
-from layouts import CR, ETX, LF, STX
+from layouts import AS_PRINTED, CR, ETX, EXCHANGED, LF, STX
 
 LF_CR, CR_LF = bytes([LF, CR]), bytes([CR, LF])
 
@@ -60,8 +60,22 @@ def leap_second_night():
     ])
 
 
+def exchanged():
+    """A 6038 that exchanges CR and LF, and other boards set alike: every layout, with bytes between them. Two telegrams in between
+    came from a board that was left as printed: a 6021 is refused, and a 6021t passes for a 5500t. One stamp was damaged on the way."""
+    return b"".join([
+        b"\x00\xfe", framed(b"E3123456170496" + CR_LF), framed(b"123457" + CR_LF), b"\x0a\x0d", framed(b"E312345817041996" + CR_LF),
+        framed(b"4 123459 170496 3" + LF_CR), framed(b"123500" + LF_CR), b"~", framed(b"12 35 01 17 04 96 53 " + LF_CR),
+        framed(b"12 35 02 " + LF_CR), stamp_6021(b"E3123503170496"), stamp_6021(b"123504"), framed(b"E312350\xb5170496" + CR_LF),
+        b"\x03", framed(b"E3123506170496" + CR_LF),
+    ])
+
+
 # The capture whose listing the requirements document prints; selftest.py holds that listing.
 PRINTED = b"x" + stamp_6021(b"E3123456170496") + b"\x0212"
 
 SAMPLES = {"winter": winter(), "nine-deliveries": nine_deliveries(), "pump-start": pump_start(),
            "leap-second-night": leap_second_night()}
+
+# By the order of the line.
+IN_ORDER = {AS_PRINTED: SAMPLES, EXCHANGED: {"exchanged": exchanged()}}

@@ -11,6 +11,7 @@ import making
 import records
 import status
 import telegrams
+from layouts import AS_PRINTED
 from records import Dated, TimeOnly
 from refusals import NO_SUCH_DAY, RANGE, STATUS_OR_WEEKDAY, WEEKDAY
 
@@ -183,12 +184,12 @@ def without_weekday(telegram, layout, control):
     return telegram[:at] + b"0" + telegram[at + 1:]
 
 
-def some_telegram(dice, control):
+def some_telegram(dice, control, order=AS_PRINTED):
     """A telegram of any of them, seldom without a weekday, seldom damaged."""
     record, kind = any_by_dice(dice), dice.random()
     if not can_be_shown(record):
         record = good_by_dice(dice)
-    telegram = telegrams.telegram_of(record, control)
+    telegram = telegrams.telegram_of(record, control, order)
     if kind < 0.1 and not records.is_time_only(record):
         return without_weekday(telegram, record.layout, control)
     return making.damaged(dice, telegram) if kind < 0.25 else telegram
@@ -206,11 +207,11 @@ def in_record(record, refusal):
 SPELLED = (None, STATUS_OR_WEEKDAY, RANGE, NO_SUCH_DAY, WEEKDAY)
 
 
-def in_telegram(telegram, control, refusal):
-    """The same of a telegram, right or wrong; None also where it spells no second."""
+def in_telegram(telegram, control, refusal, order=AS_PRINTED):
+    """The same of a telegram that was read in that order, right or wrong; None also where it spells no second."""
     if refusal not in SPELLED:
         return None
-    layout = telegrams.layout_of(telegram, control)
+    layout = telegrams.layout_of(telegram, control, order)
     if telegrams.numbers_of(layout, telegrams.between(telegram, control))["second"] < 60:
         return None
     return "time-only" if layout in layouts.TIME_ONLY else "dated", refusal or 0

@@ -6,6 +6,7 @@ Prints one line that begins with ok, or stops at the first failure and exits wit
 """
 
 import datetime
+import itertools
 import random
 import re
 import sys
@@ -24,6 +25,7 @@ import log_scripts
 import making
 import manual_examples
 import parameter
+import parameter_6038
 import places
 import records
 import request_letters
@@ -32,8 +34,10 @@ import samples
 import second_60
 import status
 import telegrams
+import trailers
 import unnamed
 from days import Date, Time
+from layouts import AS_PRINTED, EXCHANGED, ORDERS, other_order
 from leitch import Answer
 from records import Dated, TimeOnly
 from refusals import Refused, outcome
@@ -43,7 +47,7 @@ from telegrams import Setting, Written
 STX, ETX = b"\x02", b"\x03"
 LF_CR, CR_LF = b"\n\r", b"\r\n"
 WRAP = line.WRAP
-SETTINGS = [Setting(control, advance) for control in (False, True) for advance in (False, True)]
+SETTINGS = [Setting(control, advance, order) for control in (False, True) for advance in (False, True) for order in (None, *ORDERS)]
 
 counts = {}
 
@@ -56,14 +60,23 @@ def same(group, got, wanted):
         sys.exit(1)
 
 
-def read(telegram, control=True):
+def read(telegram, control=True, order=AS_PRINTED):
     """A record, or the number."""
-    record, number = outcome(telegrams.read_telegram, telegram, control)
+    record, number = outcome(telegrams.read_telegram, telegram, control, order)
     return number if record is None else record
 
 
 def framed(inner):
     return STX + inner + ETX
+
+
+def swapped(telegram, control=True):
+    """A telegram with the last two bytes between STX and ETX in the other order, where there are two."""
+    inner = telegram[1:-1] if control else telegram
+    if len(inner) < 2:
+        return telegram
+    inner = inner[:-2] + inner[-1:] + inner[-2:-1]
+    return telegram[:1] + inner + telegram[-1:] if control else inner
 
 
 def good_record(dice):
@@ -76,9 +89,10 @@ def any_record(dice):
     return (second_60.any_by_dice if dice.random() < 0.2 else making.any_record)(dice)
 
 
-def random_line(dice):
-    """A damaged line, now and then one of telegrams with second 60."""
-    return making.random_line(dice, second_60.some_telegram if dice.random() < 0.2 else making.some_telegram)
+def random_line(dice, order=AS_PRINTED):
+    """A damaged line of an order, now and then one of telegrams with second 60, now and then with some of the other order."""
+    some = second_60.some_telegram if dice.random() < 0.2 else making.some_telegram
+    return making.random_line(dice, making.in_order(some, order) if dice.random() < 0.9 else making.in_any_order(some))
 
 
 # --- the document's own examples ---
@@ -118,6 +132,9 @@ def boundary_table():
     for name, inner, wanted in table:
         same("boundary table", (name, read(framed(inner))), (name, wanted))
         same("boundary table", (name, read(inner, control=False)), (name, wanted))
+        exchanged = inner[:-2] + {LF_CR: CR_LF, CR_LF: LF_CR}[inner[-2:]]
+        same("boundary table", (name, read(framed(exchanged), True, EXCHANGED)), (name, wanted))
+        same("boundary table", (name, read(exchanged, False, EXCHANGED)), (name, wanted))
     same("boundary table", parameter.read_parameter(0xA6),
          parameter.Parameter(False, 8, "none", 2, 600))
     half_past = Dated("6021", "radio", False, False, False, 2, 0, 30, 0, 1, 1, 1980)
@@ -131,6 +148,8 @@ def examples_of_the_manuals():
             same("manual examples", isinstance(got, Dated), True)
     for _, _, byte in manual_examples.PARAMETER_EXAMPLES:
         same("manual examples", parameter.read_parameter(byte).baud, 600)
+    for _, _, byte in manual_examples.PARAMETER_EXAMPLES_6038:
+        same("manual examples", parameter_6038.read_parameter(byte), parameter_6038.Parameter(7, "even", 1, 600))
 
 
 # --- the calendar ---
@@ -203,7 +222,18 @@ def read_back_what_was_written(dice, rounds):
             continue
         same("read back", used, layouts.length(record.layout, setting.control_characters))
         same("read back", bytes(buffer[used:]), before[used:])
-        same("read back", read(bytes(buffer[:used]), setting.control_characters), wanted)
+        control, order = setting.control_characters, setting.order or AS_PRINTED
+        telegram, other = bytes(buffer[:used]), other_order(order)
+        same("read back", read(telegram, control, order), wanted)
+        same("read back", read(telegram, control, other), in_the_other_order(wanted))
+        same("read back", read(swapped(telegram, control), control, other), wanted)
+
+
+def in_the_other_order(record):
+    """What a good record's telegram is on a line of the order that it does not have: of the two time-only layouts of the same length
+    each is the other, and any other layout is refused with 3."""
+    twin = {"6021t": "5500t", "5500t": "6021t"}.get(record.layout)
+    return 3 if twin is None else record._replace(layout=twin)
 
 
 def refusals_of_records(dice, rounds):
@@ -515,19 +545,21 @@ def second_60_of_the_cases(dice, rounds):
 # --- damaged telegrams ---
 
 def what_reads_is_what_the_writer_makes(dice, rounds):
+    """In both orders. The reading in exchanged order is that of the bytes with the trailer swapped."""
     for _ in range(rounds):
-        control = dice.random() < 0.5
-        telegram = making.damaged(dice, making.telegram_of(good_record(dice), control))
-        got = read(telegram, control)
+        control, order = dice.random() < 0.5, dice.choice(ORDERS)
+        telegram = making.damaged(dice, making.telegram_of(good_record(dice), control, order))
+        got = read(telegram, control, order)
         if isinstance(got, int):
             same("damaged", 1 <= got <= 8, True)
         else:
-            same("damaged", making.telegram_of(got, control), telegram)
+            same("damaged", making.telegram_of(got, control, order), telegram)
+        same("damaged", read(swapped(telegram, control), control), read(telegram, control, EXCHANGED))
 
 
 def status_and_weekday_characters():
     """Every pair of characters in every dated layout: 5 unless both are allowed, 8 unless
-    the weekday is the date's Wednesday, else a telegram the writer makes again."""
+    the weekday is the date's Wednesday, else a telegram the writer makes again; in both orders."""
     characters = sorted(set(range(0x20, 0x50)) | set(b"abfx\x00\x02\x03\x7f\xff"))
     as_6021 = (b"0123456789ABCDEF", b"12345679ABCDEF", b"3B")
     as_5500 = (b"0123456789", b"1234567", b"3")
@@ -546,6 +578,7 @@ def status_and_weekday_characters():
                     same("characters", got, 8)
                 else:
                     same("characters", making.telegram_of(got, True), bytes(telegram))
+                same("characters", read(swapped(bytes(telegram)), True, EXCHANGED), got)
 
 
 # --- the line ---
@@ -556,15 +589,16 @@ TOKENS = re.compile(
     rb"|(?P<stray>[^\x02])", re.DOTALL)
 
 
-def events_by_pattern(captured):
-    """The events and the stray count of a whole line, found without the reader."""
+def events_by_pattern(captured, order):
+    """The events and the stray count of a whole line of an order, found without the reader. An exchanged telegram is swapped and read
+    as printed."""
     events, stray = [], 0
     for token in TOKENS.finditer(captured):
         kind, telegram = token.lastgroup, token.group()
         if kind == "stray":
             stray += 1
             continue
-        result = {"long": 10, "cut": 9, "open": 11}.get(kind) or read(telegram)
+        result = {"long": 10, "cut": 9, "open": 11}.get(kind) or read(swapped(telegram) if order == EXCHANGED else telegram)
         events.append(line.Event(token.start(), len(telegram), result))
     return events, stray
 
@@ -587,26 +621,27 @@ def fed_in_pieces(dice, state, captured):
 
 
 def lines(dice, rounds):
-    for _ in range(rounds):
-        captured = random_line(dice)
-        whole, stray = events_by_pattern(captured)
-        same("line", listing.events_of(captured)[0], whole)
-        state, events = fed_in_pieces(dice, line.fresh(), captured)
-        same("line", state, fed_in_pieces(dice, line.fresh(), captured)[0])
-        same("line", (state.fed, state.stray), (len(captured), stray))
+    """Lines of both orders."""
+    for order in [*ORDERS] * (rounds // 2):
+        captured = random_line(dice, order)
+        whole, stray = events_by_pattern(captured, order)
+        same("line", listing.events_of(captured, order)[0], whole)
+        state, events = fed_in_pieces(dice, line.fresh(order), captured)
+        same("line", state, fed_in_pieces(dice, line.fresh(order), captured)[0])
+        same("line", (state.fed, state.stray, state.order), (len(captured), stray, order))
         same("line", state.fed, sum(event.length for event in events) + stray + state.length)
         last, event = line.end(state)
-        same("line", last, line.state_of([0] * 24, 0, state.fed, stray, state.fed))
+        same("line", last, line.state_of([0] * 24, 0, state.fed, stray, state.fed, order))
         same("line", events + ([event] if event else []), whole)
         same("line", line.end(last), (last, None))
 
 
 def used_up(dice, rounds):
     """What a piece gives at one call is what its bytes give one by one, up to the thirty-second event."""
-    for _ in range(rounds):
-        piece = random_line(dice) + STX * dice.choice([0, 30, 31, 32, 33, 100]) + random_line(dice)
-        passed = line.use_up(line.fresh(), piece)
-        state, events, taken = line.fresh(), [], 0
+    for order in [*ORDERS] * (rounds // 2):
+        piece = random_line(dice, order) + STX * dice.choice([0, 30, 31, 32, 33, 100]) + random_line(dice, order)
+        passed = line.use_up(line.fresh(order), piece)
+        state, events, taken = line.fresh(order), [], 0
         while taken < len(piece) and len(events) < 32:
             state, more, event = line.feed(state, piece[taken:taken + 1])
             taken += more
@@ -641,11 +676,11 @@ def unnamed_on_a_line(dice, rounds):
 
 def wrapping_counts(dice, rounds):
     """The same line behind counts that are about to wrap gives the same events, moved."""
-    for _ in range(rounds):
-        captured = random_line(dice)
+    for order in [*ORDERS] * (rounds // 2):
+        captured = random_line(dice, order)
         fed, stray = (dice.choice([WRAP - 1, dice.randrange(WRAP - 200, WRAP)]) for _ in "ab")
-        moved = line.state_of([0] * 24, 0, fed, stray, fed)
-        state, events = fed_in_pieces(dice, line.fresh(), captured)
+        moved = line.state_of([0] * 24, 0, fed, stray, fed, order)
+        state, events = fed_in_pieces(dice, line.fresh(order), captured)
         other, other_events = fed_in_pieces(dice, moved, captured)
         same("wrap", other_events, [event._replace(start=(event.start + fed) % WRAP)
                                     for event in events])
@@ -654,14 +689,14 @@ def wrapping_counts(dice, rounds):
                                            start=(state.start + fed) % WRAP))
 
 
-def states_not_well_formed():
+def states_not_well_formed(order):
     def state(held, length=None, beyond=0, fed=100, start=None):
         places = (list(held) + [0] * 24)[:24]
         length = len(held) if length is None else length
         if beyond:
             places[23] = beyond
         return line.state_of(places, length, fed, 0,
-                             (fed - length) % WRAP if start is None else start)
+                             (fed - length) % WRAP if start is None else start, order)
 
     full = b"\x02" + b"1" * 23
     for good in (state(b""), state(b"\x02"), state(full), state(b"\x02", fed=0),
@@ -679,7 +714,260 @@ def states_not_well_formed():
         same("states", outcome(line.end, bad), (None, 15))
 
 
-# --- the parameter byte ---
+# --- the order of the trailer ---
+
+def orders_by_hand():
+    """Telegrams with their trailers written out, what they are as printed, and what they are in exchanged order."""
+    stamp = Dated("6021", "high", True, False, False, 3, 12, 34, 56, 17, 4, 1996)
+    january = Dated("5500", "crystal", False, False, False, 3, 12, 34, 56, 3, 1, 1996)
+    for inner, as_printed, exchanged in (
+            (b"E3123456170496\n\r", stamp, 3), (b"E3123456170496\r\n", 3, stamp),
+            (b"E312345617041996\n\r", stamp._replace(layout="2000"), 3), (b"E312345617041996\r\n", 3, stamp._replace(layout="2000")),
+            (b"1 123456 030196 3\r\n", january, 3), (b"1 123456 030196 3\n\r", 3, january),
+            (b"12 34 56 03 01 96 13 \r\n", january._replace(layout="5050"), 3),
+            (b"12 34 56 03 01 96 13 \n\r", 3, january._replace(layout="5050")),
+            (b"12 34 56 \r\n", TimeOnly("5050t", 12, 34, 56), 3), (b"12 34 56 \n\r", 3, TimeOnly("5050t", 12, 34, 56)),
+            (b"235959\n\r", TimeOnly("6021t", 23, 59, 59), TimeOnly("5500t", 23, 59, 59)),
+            (b"235959\r\n", TimeOnly("5500t", 23, 59, 59), TimeOnly("6021t", 23, 59, 59)),
+            (b"235959\n\n", 3, 3), (b"235959\r\r", 3, 3), (b"235959\r ", 3, 3), (b"23595A\r\n", 4, 4), (b"23595A\r\r", 3, 3),
+            (b"240000\n\r", 6, 6), (b"E3123456170496\n\n", 3, 3), (b"E4123456170496\r\n", 3, 8), (b"E4123456170496\n\r", 8, 3),
+            (b"G312345617O496\r\n", 3, 4), (b"G3123456170496\r\n", 3, 5), (b"C6120000290297\r\n", 3, 7), (b"235959\r", 1, 1),
+            (b"\r\n", 1, 1), (b"", 1, 1)):
+        for order, wanted in ((AS_PRINTED, as_printed), (EXCHANGED, exchanged)):
+            same("orders", (inner, order, read(framed(inner), True, order)), (inner, order, wanted))
+            same("orders", (inner, order, read(inner, False, order)), (inner, order, wanted))
+            same("orders", read(STX + inner + STX, True, order), 1 if wanted == 1 else 2)
+        same("orders", (read(framed(inner)), read(inner, False)), (as_printed, as_printed))
+    for order, wanted in ((None, b"\x02235959\r\n\x03"), (AS_PRINTED, b"\x02235959\r\n\x03"), (EXCHANGED, b"\x02235959\n\r\x03")):
+        buffer = bytearray(10)
+        telegrams.write_telegram(TimeOnly("5500t", 23, 59, 59), buffer, Setting(True, False, order))
+        same("orders", (order, bytes(buffer)), (order, wanted))
+    same("orders", listing.listing(b"x" + framed(b"235959" + LF_CR), EXCHANGED), listing.HEADER + b"1;5500t;-;23:59:59;-;-\nstray 1\n")
+
+
+def telegrams_of_the_cases():
+    """The telegrams that every trailer is put into: good ones are read as their layout, and wrong ones have the number that is said of
+    them."""
+    for control, order in trailers.MODES:
+        for layout, telegram in zip(trailers.GOOD, trailers.good_ones(control, order), strict=True):
+            same("orders", read(telegram, control, order).layout, layout)
+        for telegram, number in trailers.wrong_ones(control, order):
+            same("orders", (telegram, read(telegram, control, order)), (telegram, number))
+            same("orders", trailers.exchanged(telegram, control), swapped(telegram, control))
+
+
+def written_as(record, *setting):
+    """What a named setting makes of a record."""
+    buffer = bytearray(30)
+    used = telegrams.write_telegram(record, buffer, Setting(*setting))
+    return bytes(buffer[:used])
+
+
+def orders_of_writing(dice, rounds):
+    """An order that is not named is as printed. The exchanged telegram has its trailer the other way round and is else the same. An
+    exchanged 5500t is, byte for byte, an as-printed 6021t of the same time, and the other way round. Without a setting nothing is
+    exchanged."""
+    for _ in range(rounds):
+        record, control = good_record(dice), dice.random() < 0.5
+        as_printed, exchanged = (written_as(record, control, False, order) for order in ORDERS)
+        same("orders", (written_as(record, control, False), swapped(as_printed, control)), (as_printed, exchanged))
+        twin = in_the_other_order(record)
+        if twin != 3:
+            same("orders", (written_as(twin, control, False, AS_PRINTED), written_as(twin, control, False, EXCHANGED)),
+                 (exchanged, as_printed))
+        if not records.is_time_only(record):
+            same("orders", unnamed.written([record]), written_as(record._replace(layout="6021"), True, False, AS_PRINTED))
+            same("orders", outcome(telegrams.read_telegram, unnamed.written([record]), True, EXCHANGED), (None, 3))
+
+
+READ_AS = [  # length between STX and ETX, what stands before the trailer, the layouts of LF CR and CR LF as printed
+    (16, rb"[0-9A-F][1-79A-F][0-9]{12}", "6021", None), (8, rb"[0-9]{6}", "6021t", "5500t"),
+    (18, rb"[0-9A-F][1-79A-F][0-9]{14}", "2000", None), (19, rb"[0-9] [0-9]{6} [0-9]{6} [1-7]", None, "5500"),
+    (23, rb"([0-9]{2} ){6}[0-9][1-7] ", None, "5050"), (11, rb"([0-9]{2} ){3}", None, "5050t")]
+
+
+def layout_by_pattern(inner, order):
+    """The layout that bytes may be a telegram of, or None, found without the table of layouts."""
+    for size, pattern, lf_cr, cr_lf in READ_AS:
+        if len(inner) == size and re.fullmatch(pattern, inner[:-2]):
+            by_trailer = {LF_CR: lf_cr, CR_LF: cr_lf} if order == AS_PRINTED else {CR_LF: lf_cr, LF_CR: cr_lf}
+            return by_trailer.get(inner[-2:])
+    return None
+
+
+def every_length(dice, rounds):
+    """Bytes of every length in each mode, with any two bytes for a trailer, likely ones more often: 1 exactly where the length is none
+    of the mode's, then 2 exactly where the frame is wrong, the same in both orders; then 3 to 5 exactly where no pattern fits. What is
+    read has the pattern's layout, and the writer makes it. Exchanged is as printed with the trailer swapped."""
+    lengths = {True: {10, 13, 18, 20, 21, 25}, False: {8, 11, 16, 18, 19, 23}}
+    for control, size in itertools.product((True, False), trailers.LENGTHS):
+        for _ in range(rounds):
+            telegram = bytearray(trailers.of_length(dice, size, control, dice.choice(ORDERS)))
+            if dice.random() < 0.3 and telegram:
+                telegram = bytearray(making.damaged(dice, telegram)[:size].ljust(size, b"\n"))
+            end = size - control
+            if end - 2 >= control:
+                telegram[end - 2:end] = dice.choice([LF_CR, CR_LF, LF_CR, CR_LF, b"\n\n", dice.randbytes(2), telegram[end - 2:end]])
+            telegram = bytes(telegram)
+            inner = telegram[1:-1] if control else telegram
+            for order in ORDERS:
+                got = read(telegram, control, order)
+                if size not in lengths[control]:
+                    same("every length", got, 1)
+                elif control and (telegram[:1], telegram[-1:]) != (STX, ETX):
+                    same("every length", got, 2)
+                else:
+                    layout = layout_by_pattern(inner, order)
+                    same("every length", got in (3, 4, 5), layout is None)
+                    if not isinstance(got, int):
+                        same("every length", (got.layout, making.telegram_of(got, control, order)), (layout, telegram))
+            same("every length", read(telegram, control, EXCHANGED), read(swapped(telegram, control), control))
+
+
+def every_trailer():
+    """A good telegram of each layout in each mode with each of the 65,536 trailers: two are read at the length that two layouts have,
+    one at any other, and all others are 3."""
+    for control, order in trailers.MODES:
+        for layout, telegram in zip(trailers.GOOD, trailers.good_ones(control, order)):
+            refused, found = trailers.read_with_every_trailer(telegram, control, order)
+            wanted = [(*telegram[len(telegram) - control - 2:][:2], layout)]
+            if layout in ("6021t", "5500t"):
+                wanted = sorted(wanted + [(*wanted[0][1::-1], {"6021t": "5500t", "5500t": "6021t"}[layout])])
+            same("every trailer", (found, refused), (wanted, [0, 0, 0, 65536 - len(wanted), 0, 0, 0, 0, 0]))
+    for size, control in ((0, True), (3, True), (9, True), (40, True), (1, False), (9, False)):
+        refused, found = trailers.read_with_every_trailer(b"\x02" * size, control, EXCHANGED)
+        same("every trailer", (found, refused[1]), ([], 65536))
+
+
+def good_lines(dice, rounds):
+    """Demand 3 in each order: good telegrams of a line's order, with any bytes but STX before, between and after, come back as they
+    were, wherever the line is cut, with no refusal and the true number of stray bytes. On a line of the other order only time-only
+    telegrams of the one length would be read, as each other's."""
+    for order in [*ORDERS] * (rounds // 2):
+        some = [good_record(dice) for _ in range(dice.randrange(6))]
+        captured, wanted, stray = b"", [], 0
+        for record in [*some, None]:
+            noise = bytes(dice.choice([byte for byte in range(256) if byte != 2]) for _ in range(dice.choice([0, 0, 1, 2, 40])))
+            captured, stray = captured + noise, stray + len(noise)
+            if record is not None:
+                telegram = making.telegram_of(record, True, order)
+                wanted.append(line.Event(len(captured), len(telegram), record))
+                captured += telegram
+        size = len(captured)
+        outside = line.state_of([0] * 24, 0, size, stray, size, order)
+        same("good lines", fed_in_pieces(dice, line.fresh(order), captured), (outside, wanted))
+        same("good lines", line.end(outside), (outside, None))
+        same("good lines", line.use_up(line.fresh(order), captured), line.Passed(outside, size, tuple(wanted)))
+        same("good lines", len(captured) - stray, sum(event.length for event in wanted))
+        there = listing.events_of(captured, other_order(order))[0]
+        same("good lines", [event.outcome for event in there], [in_the_other_order(record) for record in some])
+
+
+def cut_at_each_place(dice, rounds):
+    """A damaged line of each order, in two pieces cut at each place, and byte by byte: the same events and the same state."""
+    for order in [*ORDERS] * (rounds // 2):
+        captured = random_line(dice, order)
+        wanted, stray = events_by_pattern(captured, order)
+        for pieces in [[captured[:cut], captured[cut:]] for cut in range(len(captured) + 1)] + [[bytes([byte]) for byte in captured]]:
+            state, events = line.fresh(order), []
+            for piece in pieces:
+                while piece:
+                    state, taken, some = line.use_up(state, piece)
+                    piece = piece[taken:]
+                    events += some
+            left, event = line.end(state)
+            same("cut", events + ([event] if event else []), wanted)
+            same("cut", left, line.state_of([0] * 24, 0, len(captured), stray, len(captured), order))
+            same("cut", (state.fed, state.order), (sum(event.length for event in events) + stray + state.length, order))
+
+
+def state_of_either_order(dice, rounds):
+    """The order changes nothing but what an ended telegram is: a state of each order takes the same bytes, and keeps its order."""
+    for _ in range(rounds):
+        piece, held = random_line(dice, dice.choice(ORDERS)), making.some_telegram(dice, True)[:dice.randrange(25)].rstrip(ETX)
+        held = held if line.well_formed(line.with_held(held, 0, 0)) else b""
+        as_printed, exchanged = (line.feed(line.with_held(held, 7, 9, order), piece) for order in ORDERS)
+        same("orders", (as_printed.state.order, exchanged.state.order), ORDERS)
+        same("orders", (as_printed.state._replace(order=EXCHANGED), as_printed.taken), (exchanged.state, exchanged.taken))
+        taken = held + piece[:as_printed.taken]
+        if as_printed.event is not None and taken.endswith(ETX):
+            telegram = taken[-as_printed.event.length:]
+            for fed, order in ((as_printed, AS_PRINTED), (exchanged, EXCHANGED)):
+                same("orders", fed.event, as_printed.event._replace(outcome=read(telegram, True, order)))
+        else:
+            same("orders", as_printed.event, exchanged.event)
+
+
+def log_is_as_printed():
+    """The log takes as-printed order only: an exchanged telegram is refused with 3, or is the other time-only layout as printed."""
+    for layout, telegram in zip(trailers.GOOD, trailers.good_ones(True, EXCHANGED)):
+        region, twin = bytearray(512), {"6021t": b"0;0;5500t;-;23:59:59;-;-\n", "5500t": b"0;0;6021t;-;00:00:00;-;-\n"}.get(layout)
+        same("orders", outcome(log.add, region, telegram), ((0, 0), None) if twin else (None, 3))
+        same("orders", outcome(log.read_back, region, 0, 0), (telegram, None) if twin else (None, 27))
+        same("orders", log_listing.log_listing(bytes(region)), log_listing.LOG_HEADER + (twin or b""))
+
+
+# --- the parameter bytes ---
+
+# The tables of 003, sections 1.2.2 to 1.2.5, as printed: the switches as they head the columns, and each row.
+PRINTED_6038 = [
+    ("data_bits", (2,), [("off", 8), ("on", 7)]),
+    ("parity", (3, 4), [("on on", "odd"), ("on off", "even"), ("off off", "none")]),
+    ("stop_bits", (5,), [("off", 1), ("on", 2)]),
+    ("baud", (8, 7, 6), [("on on on", 150), ("on on off", 300), ("on off on", 600), ("on off off", 1200), ("off on on", 2400),
+                         ("off on off", 4800), ("off off on", 9600), ("off off off", 19200)]),
+]
+
+
+def value_of(row, switches):
+    """The bits of a printed row, by the valence of each switch."""
+    return sum(2 ** (switch - 1) for switch, position in zip(switches, row.split(), strict=True) if position == "on")
+
+
+def printed_meaning(byte):
+    """What the printed rows say of a byte, or 16 where a table has no row for it."""
+    found = {}
+    for field, switches, rows in PRINTED_6038:
+        mask = value_of(" ".join("on" for _ in switches), switches)
+        found[field] = [meaning for row, meaning in rows if byte & mask == value_of(row, switches)]
+    if any(len(meanings) != 1 for meanings in found.values()):
+        return 16
+    return parameter_6038.Parameter(**{field: meaning for field, (meaning,) in found.items()})
+
+
+def parameter_bytes_6038():
+    """All 256 bytes, held to the printed rows; each printed row by itself; every setting, offered or not."""
+    offered = set()
+    for byte in range(256):
+        setting, number = outcome(parameter_6038.read_parameter, byte)
+        same("6038", (byte, setting or number), (byte, printed_meaning(byte)))
+        same("6038", (byte, number), (byte, 16 if byte & 0x0C == 0x08 else None))
+        same("6038", outcome(parameter_6038.read_parameter, byte ^ 1), (setting, number))
+        if setting is not None:
+            offered.add(setting)
+            same("6038", parameter_6038.write_parameter(setting), byte & 0xFE)
+    same("6038", len(offered), 96)
+    plain = parameter_6038.Parameter(8, "none", 1, 19200)
+    same("6038", (parameter_6038.read_parameter(0), parameter_6038.write_parameter(plain)), (plain, 0))
+    for field, switches, rows in PRINTED_6038:
+        for row, meaning in rows:
+            setting, byte = plain._replace(**{field: meaning}), value_of(row, switches)
+            same("6038", (row, parameter_6038.read_parameter(byte)), (row, setting))
+            same("6038", (row, parameter_6038.write_parameter(setting)), (row, byte))
+    same("6038", (parameter_6038.read_parameter(0x20).baud, parameter.read_parameter(0x20).baud), (9600, 1200))
+    same("6038", (parameter_6038.read_parameter(0x80).baud, parameter.read_parameter(0x80).baud), (1200, 9600))
+    for byte, setting in ((0x20, (8, "none", 1, 9600)), (0xA6, (7, "even", 1, 600)), (0xFF, (7, "odd", 2, 150)),
+                          (0x01, (8, "none", 1, 19200)), (0x40, (8, "none", 1, 4800)), (0x60, (8, "none", 1, 2400)),
+                          (0xC0, (8, "none", 1, 300))):
+        same("6038", (byte, parameter_6038.read_parameter(byte)), (byte, parameter_6038.Parameter(*setting)))
+    bauds = [0, 110, 149, 150, 300, 600, 1200, 2400, 4800, 9600, 19200, 38400, 2 ** 32 - 1]
+    for fields in itertools.product(range(12), ("none", "even", "odd", "mark"), range(5), bauds):
+        setting = parameter_6038.Parameter(*fields)
+        byte, number = outcome(parameter_6038.write_parameter, setting)
+        same("6038", (setting, number), (setting, None if setting in offered else 16))
+        if byte is not None:
+            same("6038", (parameter_6038.read_parameter(byte), byte & 1, byte & 0x0C == 0x08), (setting, 0, False))
+
 
 def parameter_bytes():
     for byte in range(256):
@@ -1146,8 +1434,19 @@ def main():
     used_up(dice, 300)
     unnamed_on_a_line(dice, 1000)
     wrapping_counts(dice, 300)
-    states_not_well_formed()
+    for order in ORDERS:
+        states_not_well_formed(order)
+    orders_by_hand()
+    telegrams_of_the_cases()
+    orders_of_writing(dice, 3000)
+    every_length(dice, 60)
+    every_trailer()
+    good_lines(dice, 600)
+    cut_at_each_place(dice, 60)
+    state_of_either_order(dice, 1000)
+    log_is_as_printed()
     parameter_bytes()
+    parameter_bytes_6038()
     digits_and_places(dice, 1000)
     rows(dice, 1000)
     days_of_the_year()

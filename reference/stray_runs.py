@@ -9,7 +9,7 @@ import random
 import re
 
 import making
-from layouts import ETX, STX
+from layouts import AS_PRINTED, ETX, STX
 
 LENGTHS = range(201)
 PLACES = 64
@@ -29,11 +29,11 @@ def run_of(dice, length):
     return bytes(dice.choices(STRAY, k=length))
 
 
-def some_telegrams(dice):
+def some_telegrams(dice, order):
     """Good telegrams of all layouts, by their lengths."""
     telegrams = {}
     for _ in range(500):
-        telegram = making.telegram_of(making.good_record(dice), True)
+        telegram = making.telegram_of(making.good_record(dice), True, order)
         telegrams.setdefault(len(telegram), []).append(telegram)
     return telegrams
 
@@ -57,10 +57,10 @@ def capture_of(dice, telegrams, length):
     return captured + run_of(dice, length)
 
 
-def captures(seed):
-    """A capture for each length."""
+def captures(seed, order=AS_PRINTED):
+    """A capture for each length, with telegrams in that order."""
     dice = random.Random(seed)
-    telegrams = some_telegrams(dice)
+    telegrams = some_telegrams(dice, order)
     for length in LENGTHS:
         yield capture_of(dice, telegrams, length)
 
@@ -76,8 +76,9 @@ def runs_in(captured):
     yield start, captured[start:]
 
 
-def check(made):
+def check(lines):
     """Fails where a length has no capture, where a capture lacks its runs, or where ETX is rare among all of them."""
+    made = [a_line.captured for a_line in lines]
     if len(made) != len(LENGTHS):
         raise AssertionError(f"{len(made)} captures with runs, where {len(LENGTHS)} are wanted")
     stray = b""

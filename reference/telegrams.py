@@ -2,10 +2,10 @@
 
 from typing import NamedTuple, Optional
 
-from layouts import (DECIMALS_AT, ETX, FIXED_AT, LAYOUTS, STATUS, STX, TIME_ONLY, WEEKDAY, layouts_of_length)
-from records import Dated, TimeOnly, check_record, flags_of, following, is_time_only
+from layouts import (AS_PRINTED, DECIMALS_AT, ETX, FIXED_AT, FIXED_PICKER, LAYOUTS, STATUS, STX, TIME_ONLY, WEEKDAY, layouts_of_length)
+from records import Dated, TimeOnly, check_record, flags_of, following, is_time_only, refusal_of
 from refusals import (BUFFER, DECIMAL_PLACE, FIXED_PLACE, FRAME, LENGTH, NO_DATE,
-                      STATUS_OR_WEEKDAY, Refused, check)
+                      STATUS_OR_WEEKDAY, Refused, check, lowest)
 from status import (character_of, nibble_of, read_status, read_weekday, status_allowed,
                     weekday_allowed, write_status, write_weekday)
 
@@ -19,25 +19,26 @@ def between(telegram, control_characters):
     return telegram[1:-1] if control_characters else telegram
 
 
-def fixed_places_hold(layout, inner):
-    """Every space, CR and LF of the layout is in its place."""
-    return all(inner[at] == place for at, place in FIXED_AT[layout])
+def fixed_places_hold(layout, inner, order):
+    """Every space, CR and LF of the layout is in its place, CR and LF in that order's."""
+    found_in, belonging = FIXED_PICKER[layout, order]
+    return found_in(inner) == belonging
 
 
-def layout_of(telegram, control_characters):
-    """The layout of that length whose fixed places hold. At length 10 (8) this is the
-    order of LF and CR."""
+def layout_of(telegram, control_characters, order=AS_PRINTED):
+    """The layout of that length whose fixed places hold in that order. At length 10 (8) LF and CR decide
+    it: as printed LF CR is a 6021t and CR LF a 5500t, exchanged it is the other way round."""
     inner = between(telegram, control_characters)
     for layout in layouts_of_length(len(telegram), control_characters):
-        if fixed_places_hold(layout, inner):
+        if fixed_places_hold(layout, inner, order):
             return layout
     return None
 
 
 def layout_by_length(inner):
     """The layout that bytes between STX and ETX are judged by; 1 where none has their length. Where two
-    have it and the order of LF and CR is that of neither, the last, which then refuses them as 3."""
-    check(((LENGTH, length_not_in_table),), inner, False)
+    have it and LF and CR stand as in neither, the last, which then refuses them as 3."""
+    check(((LENGTH, length_not_in_table),), inner, False, AS_PRINTED)
     return layout_of(inner, False) or layouts_of_length(len(inner), False)[-1]
 
 
@@ -46,31 +47,31 @@ def character_at(layout, inner, wanted):
     return inner[LAYOUTS[layout].index(wanted)]
 
 
-def length_not_in_table(telegram, control_characters):
-    """Condition 1: no layout has that length in this mode."""
+def length_not_in_table(telegram, control_characters, order):
+    """Condition 1: no layout has that length in this mode, whatever the order."""
     return not layouts_of_length(len(telegram), control_characters)
 
 
-def frame_missing(telegram, control_characters):
-    """Condition 2: STX and ETX are wanted, and one is not at its end."""
+def frame_missing(telegram, control_characters, order):
+    """Condition 2: STX and ETX are wanted, and one is not at its end, whatever the order."""
     return control_characters and (telegram[0] != STX or telegram[-1] != ETX)
 
 
-def fixed_place_wrong(telegram, control_characters):
-    """Condition 3: no layout of that length has all its spaces, CR and LF in place."""
-    return layout_of(telegram, control_characters) is None
+def fixed_place_wrong(telegram, control_characters, order):
+    """Condition 3: no layout of that length has all its spaces, CR and LF in place in that order."""
+    return layout_of(telegram, control_characters, order) is None
 
 
-def decimal_place_wrong(telegram, control_characters):
+def decimal_place_wrong(telegram, control_characters, order):
     """Condition 4: some decimal place holds no digit."""
-    layout = layout_of(telegram, control_characters)
+    layout = layout_of(telegram, control_characters, order)
     inner = between(telegram, control_characters)
     return any(not DIGIT_0 <= inner[at] <= DIGIT_9 for at, _ in DECIMALS_AT[layout])
 
 
-def status_or_weekday_wrong(telegram, control_characters):
+def status_or_weekday_wrong(telegram, control_characters, order):
     """Condition 5: no four bits at all, or four bits the layout does not allow."""
-    layout = layout_of(telegram, control_characters)
+    layout = layout_of(telegram, control_characters, order)
     if layout in TIME_ONLY:
         return False
     inner = between(telegram, control_characters)
@@ -115,21 +116,36 @@ def record_of(layout, inner):
                  announced=flags.announced, utc=flags.utc or marked, weekday=weekday, **numbers)
 
 
-def read_telegram(telegram, control_characters):
-    """The record of one telegram, or the lowest of 1 to 8 that holds."""
-    check(READING_CONDITIONS, telegram, control_characters)
-    layout = layout_of(telegram, control_characters)
-    record = record_of(layout, between(telegram, control_characters))
-    check_record(record)
+def judged(telegram, control_characters, order=AS_PRINTED):
+    """One telegram from a line of that order: its record and None, or None and the lowest of 1 to 8 that holds."""
+    number = lowest(READING_CONDITIONS, telegram, control_characters, order)
+    if number is not None:
+        return None, number
+    record = record_of(layout_of(telegram, control_characters, order), between(telegram, control_characters))
+    number = refusal_of(record)
+    return (record, None) if number is None else (None, number)
+
+
+def read_telegram(telegram, control_characters, order=AS_PRINTED):
+    """The record of one telegram from a line of that order, or refused with the lowest of 1 to 8 that holds."""
+    record, number = judged(telegram, control_characters, order)
+    if number is not None:
+        raise Refused(number)
     return record
 
 
 # --- writing one ---
 
 class Setting(NamedTuple):
-    """A named setting: the record's own layout is written in this way."""
+    """A named setting: the record's own layout is written in this way. It may go without an order."""
     control_characters: bool
     second_advance: bool
+    order: Optional[str] = None
+
+
+def order_of(setting):
+    """The order that a named setting writes in: as-printed where it names none."""
+    return AS_PRINTED if setting.order is None else setting.order
 
 
 def numbers_to_write(record):
@@ -140,11 +156,11 @@ def numbers_to_write(record):
     return numbers
 
 
-def telegram_of(record, control_characters):
-    """The bytes of a good record in its own layout."""
+def telegram_of(record, control_characters, order=AS_PRINTED):
+    """The bytes of a good record in its own layout, for a line of that order."""
     row, numbers = LAYOUTS[record.layout], numbers_to_write(record)
     inner = bytearray(len(row))
-    for at, byte in FIXED_AT[record.layout]:
+    for at, byte in FIXED_AT[record.layout, order]:
         inner[at] = byte
     for at, (field, unit) in DECIMALS_AT[record.layout]:
         inner[at] = DIGIT_0 + numbers[field] // unit % 10
@@ -159,13 +175,13 @@ def telegram_as_set(record, setting):
     check_record(record)
     if setting.second_advance:
         record = following(record)
-    return telegram_of(record, setting.control_characters)
+    return telegram_of(record, setting.control_characters, order_of(setting))
 
 
 def telegram_without_setting(record):
     """What is written where no setting is named: 6021 whatever the record's layout, with
-    control characters, so that a line reader takes it, no advance; 5 to 8, then 14 for a
-    time-only record."""
+    control characters, so that a line reader takes it, no advance, as printed; 5 to 8, then
+    14 for a time-only record."""
     check_record(record)
     if is_time_only(record):
         raise Refused(NO_DATE)
