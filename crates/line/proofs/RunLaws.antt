@@ -5,10 +5,10 @@ use mathlib.Core.List.{List, [], _∷_, _++_}
 use Prim.Native.Nat.{ℕ, zero, suc, _+_, _-_, _≤_, _<_}
 use native.Mathlib.Numerals.{add-one}
 use native.Mathlib.Omega.{arith}
-use lib.Dec.{eqb}
+use lib.Dec.{eqb, ltb}
 use lib.ListN.{length, take, drop, getD, drop-of-length-le, length-drop, take-append-drop}
 use lib.Seq.{drop-cons, drop-drop, length-take-le, take-nil}
-use borrow.Author.Tests.{eqb-true}
+use borrow.Author.Tests.{eqb-true, ltb-true, ltb-false}
 use Rattle.ascii.specs.Control.{stx}
 use Rattle.line.specs.Line.{places, isPlain}
 use Rattle.line.specs.Runs.{beginsWithStx, hasStx, strayRun, plainRun, roomyRun}
@@ -26,7 +26,7 @@ module _ (piece : List ℕ) (at : ℕ) where
   pub stx-byte : at < length piece → hasStx (drop at piece) ≡ (eqb (getD piece at 0) stx || hasStx (drop (at + 1) piece))
   stx-byte h = rw (drop-cons piece at 0 h, add-one)
 
-  pub run-end : (end : ℕ) → length piece ≤ at → roomyRun end (drop at piece) ≡ 0
+  run-end : (end : ℕ) → length piece ≤ at → roomyRun end (drop at piece) ≡ 0
   run-end end h = rw (drop-of-length-le piece h) (ap plainRun (take-nil (places - end)))
 
   pub run-byte : (end : ℕ) → end < places → at < length piece
@@ -35,10 +35,27 @@ module _ (piece : List ℕ) (at : ℕ) where
       let one-less : places - end ≡ suc (places - (end + 1)) = omega arith in
       rw (drop-cons piece at 0 h, add-one at) (ap (λ n. plainRun (take n (getD piece at 0 ∷ drop (suc at) piece))) one-less)
 
-pub run-full : (piece : List ℕ) (end : ℕ) → places ≤ end → roomyRun end piece ≡ 0
+run-full : (piece : List ℕ) (end : ℕ) → places ≤ end → roomyRun end piece ≡ 0
 run-full piece end full =
     let none : places - end ≡ 0 = omega arith in
     ap (λ n. plainRun (take n piece)) none
+
+not-less : (n m : ℕ) → (n < m → ⊥) → m ≤ n
+not-less n m none = go (ltb n m) refl
+  where
+    go : (less : Bool) → ltb n m ≡ less → m ≤ n
+    go true is = absurd (none (ltb-true n m is))
+    go false is = ltb-false n m is
+
+-- a run is over where there is no room for a byte, or no byte
+pub run-over : (piece : List ℕ) (at end : ℕ) → (end < places → at < length piece → ⊥) → roomyRun end (drop at piece) ≡ 0
+run-over piece at end over = go (ltb end places) refl
+  where
+    go : (free : Bool) → ltb end places ≡ free → roomyRun end (drop at piece) ≡ 0
+    go true is =
+        let some = ltb-true end places is in
+        run-end piece at end (not-less at (length piece) (over some))
+    go false is = run-full (drop at piece) end (ltb-false end places is)
 
 -- a run is no longer than its room and its piece
 abbrev pub Within : ℕ → ℕ → List ℕ → Type 0

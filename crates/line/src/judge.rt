@@ -18,18 +18,19 @@ fn capped(len: usize) -> usize
     PLACES
 }
 
-// Reads the first `len` bytes held, with ETX behind them, in the line's order.
+// Reads the first `len` bytes held, with ETX behind them, in the line's order. Every place is copied, so that the compiler moves many
+// at once.
 pub(crate) fn judge(held: [u8; PLACES], len: usize, order: Order) -> RecordAnswer
     ensures { λ r. ⌜ recordAnswer r ≡ judgement order (take len held) ⌝ }
 {
     let size = capped(len);
     let mut whole = [0u8; PLACES + 1];
     let mut at: usize = 0;
-    while at < size {
+    while at < PLACES {
         whole[at] = held[at];
         at += 1;
     }
-    whole[at] = ETX;
-    let end = at + 1;
+    whole[size] = ETX;
+    let end = size + 1;
     telegram::read::read_in(&whole[0..end], true, order)
 }

@@ -3,8 +3,9 @@ use super::PLACES;
 use telegram::ETX;
 use telegram::STX;
 ghost use mathlib.Core.Path.{_≡_};
+ghost use Prim.Native.Nat.{_-_, min};
 ghost use lib.Seq.{paste};
-ghost use Rattle.line.specs.Line.{isPlain};
+ghost use Rattle.line.specs.Line.{places, isPlain};
 ghost use Rattle.line.specs.Runs.{roomyRun};
 
 // Whether a byte is held inside a telegram as it comes.
@@ -24,16 +25,31 @@ pub struct Gathered {
     pub added: usize,
 }
 
-// Holds the plain bytes at the front of a piece behind the first `len`, as far as there is room.
+// How many bytes of a piece there are places for behind the first `len`.
+fn room_behind(len: usize, length: usize) -> usize
+    ensures { λ r. ⌜ r ≡ min length (places - len) ⌝ }
+{
+    if PLACES <= len {
+        return 0;
+    }
+    let left = PLACES - len;
+    if length < left {
+        return length;
+    }
+    left
+}
+
+// Holds the plain bytes at the front of a piece behind the first `len`, as far as there is room. The room is found first, so that each
+// byte is held against one bound.
 pub(crate) fn gather(held: [u8; PLACES], len: usize, piece: &[u8]) -> Gathered
     ensures added { λ r. ⌜ r .added ≡ roomyRun len (now (piece .entry)) ⌝ }
     ensures laid { λ r. ⌜ r .held ≡ paste held len (now (piece .entry)) (roomyRun len (now (piece .entry))) ⌝ }
 {
-    let length = piece.len();
+    let room = room_behind(len, piece.len());
     let mut all = held;
     let mut at: usize = 0;
     let mut end = len;
-    while end < PLACES && at < length {
+    while at < room {
         let byte = piece[at];
         if !is_plain(byte) {
             return Gathered {

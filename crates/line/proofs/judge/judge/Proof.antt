@@ -1,7 +1,7 @@
 -- `line::judge::judge` meets its contract. The loop's invariant: the bytes copied so far.
 use native.Mathlib.Omega.{arith}
 use borrow.Author.Needs.{needs}
-use mathlib.Core.Path.{_≡_, refl, ap, _∙_}
+use mathlib.Core.Path.{_≡_, refl, ap, _∙_, subst}
 use Prim.Native.Nat.{_+_, _-_, _≤_}
 use lib.ListN.{length, length-set, take, getD}
 use Rattle.telegram.specs.Reading.{readIn}
@@ -13,10 +13,10 @@ use Rattle.line.proofs.judge.judge.Statement.{statement}
 use Rattle.line.proofs.judge.judge.Tie as tie
 
 abbrev Inv-loop : tie.InvT-loop
-Inv-loop len order held size whole₀ at₀ whole at = (at ≤ size) × (length whole ≡ places + 1) × (take at whole ≡ take at held)
+Inv-loop len order held size whole₀ at₀ whole at = (at ≤ places) × (length whole ≡ places + 1) × (take at whole ≡ take at held)
 
 abbrev μ-loop : tie.MeasureT-loop
-μ-loop len order held size whole₀ at₀ whole at = size - at
+μ-loop len order held size whole₀ at₀ whole at = places - at
 
 capped-requires : tie.Need-capped-requires Inv-loop μ-loop
 capped-requires c κs = search needs
@@ -25,10 +25,10 @@ loop-holds : tie.Need-loop-holds Inv-loop μ-loop
 loop-holds c = (omega arith, refl, refl)
 
 array-read-whole : tie.Need-array-read-whole Inv-loop μ-loop
-array-read-whole c = omega (arith, c .before .before .capped .ensures)
+array-read-whole c = omega arith
 
 array-write-whole : tie.Need-array-write-whole Inv-loop μ-loop
-array-write-whole c = omega (arith, c .before .before .capped .ensures)
+array-write-whole c = omega arith
 
 add-at : tie.Need-add-at Inv-loop μ-loop
 add-at c = omega arith
@@ -43,7 +43,7 @@ loop-again c =
     let size : length held ≡ places = omega (arith, c .before .before .before .good) in (
       omega arith,
       length-set (l .whole) (l .at) (getD held (l .at) 0) ∙ l .inv .1,
-      copy-step held (l .whole) (l .at) (omega (arith, c .before .before .capped .ensures)) (omega (arith, c .before .before .capped .ensures, l .inv .1)) (l .inv .2),
+      copy-step held (l .whole) (l .at) (omega arith) (omega (arith, l .inv .1)) (l .inv .2),
     )
 
 array-write-whole-2 : tie.Need-array-write-whole-2 Inv-loop μ-loop
@@ -59,17 +59,23 @@ part-read-in-start : tie.Need-part-read-in-start Inv-loop μ-loop
 part-read-in-start c = search needs
 
 part-read-in-end : tie.Need-part-read-in-end Inv-loop μ-loop
-part-read-in-end c = omega (arith, length-set (c .before .before .loop .whole) (c .before .before .loop .at) etx, c .before .before .before .capped .ensures, c .before .before .loop .inv .1)
+part-read-in-end c = omega (arith, length-set (c .before .before .loop .whole) (c .before .before .before .capped .result) etx, c .before .before .before .capped .ensures, c .before .before .loop .inv .1)
 
 read-in-requires : tie.Need-read-in-requires Inv-loop μ-loop
 read-in-requires c κs = search needs
 
 returns : tie.Need-returns Inv-loop μ-loop
 returns c =
-    let held = c .before .before .before .before .before .before .args .t1 in
+    let start = c .before .before .before .before .before .before .args in
+    let held = start .t1 in
+    let capped = c .before .before .before .before .before .capped in
     let l = c .before .before .before .before .loop in
     let size : length held ≡ places = omega (arith, c .before .before .before .before .before .before .good) in
-    c .read-in .ensures ∙ ap (readIn _ _) (closed held (l .whole) (c .before .before .before .before .before .before .args .len) (l .at) (l .at + 1 - 0) etx (omega arith) (omega (arith, c .before .before .before .before .before .capped .ensures)) (omega (arith, c .before .before .before .before .before .capped .ensures, l .inv .1)) (l .inv .2))
+    let all : l .at ≡ places = omega (arith, l .inv .0, c .before .before .before .loop-test) in
+    let copied = subst (λ n. take n (l .whole) ≡ take n held) all (l .inv .2) in
+    c .read-in .ensures
+    ∙ ap (readIn _ _)
+    (closed held (l .whole) (start .len) (capped .result) places (capped .result + 1 - 0) etx (omega arith) (omega (arith, capped .ensures)) (omega (arith, capped .ensures)) (omega (arith, capped .ensures, l .inv .1)) copied)
 
 pub judge-spec : {M : Type 1} → statement M
 judge-spec =
