@@ -15,7 +15,7 @@ use Rattle.board.specs.Switches.{switch, byteOf, withoutSwitch1}
 use Rattle.board.specs.Rates.{rateRow}
 use Rattle.board.specs.Settings.{isOffered}
 use Rattle.board.specs.Of6038.{dataBitsIn, parityAt, parityIn, stopBitsIn, baudIn, settingWith, parameterIn, thirdFor, fourthFor, switchesFor, offered, byteFor}
-use Rattle.board.specs.RoundTrip6038.{isOffOn, All256ReadOrRefused, Switch1IsReadAsNothing, Switch1IsWrittenOff, ReadingThenWritingClearsSwitch1, WhatIsWrittenReadsBack, OffOnIsNeverWritten, ASettingNotOfferedIs16}
+use Rattle.board.specs.RoundTrip6038.{isOffOn, All256ReadOrRefused, Switch1IsReadAsNothing, Switch1IsWrittenOff, ReadingThenWritingClearsSwitch1, ASettingWrittenReadsBack, OffOnIsNeverWritten, ASettingNotOfferedIs16}
 use Rattle.board.proofs.SwitchLaws.{is-on, byte-fits}
 use Rattle.board.proofs.RateLaws.{rate-back}
 use Rattle.board.proofs.SettingLaws.{same, same-true, by-the-other, offered-parts, was-offered}
@@ -85,7 +85,7 @@ written : (parameter : Parameter) (byte : ℕ) → byteFor parameter ≡ done by
 unfolding byteFor
 written parameter byte = was-offered (offered parameter) (byteOf (switchesFor parameter)) byte
 
-pub write-then-read : WhatIsWrittenReadsBack
+pub write-then-read : ASettingWrittenReadsBack
 unfolding switchesFor
 write-then-read parameter byte e =
     let w = written parameter byte e in

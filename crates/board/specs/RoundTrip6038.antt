@@ -31,9 +31,9 @@ abbrev pub ReadingThenWritingClearsSwitch1 : Type 0
 ReadingThenWritingClearsSwitch1 =
     (byte : ℕ) → byte < 256 → after (parameterIn byte) byteFor ≡ cond (isOffOn byte) (refused 16) (done (withoutSwitch1 byte))
 
--- what is written reads back: whatever numbers a setting holds, what is written is a byte, and reading it gives the setting
-abbrev pub WhatIsWrittenReadsBack : Type 0
-WhatIsWrittenReadsBack =
+-- a setting written reads back: whatever numbers it holds, what is written is a byte, and reading it gives the setting
+abbrev pub ASettingWrittenReadsBack : Type 0
+ASettingWrittenReadsBack =
     (parameter : Parameter) (byte : ℕ) → byteFor parameter ≡ done byte → (parameterIn byte ≡ done parameter) × (byte < 256)
 
 -- off/on is refused when read, and no write makes it

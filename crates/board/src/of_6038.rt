@@ -60,12 +60,11 @@ fn parity_in(byte: u8) -> ParityAnswer
 pub fn read(byte: u8) -> ParameterAnswer
     ensures { λ r. ⌜ parameterAnswer r ≡ parameterIn byte ⌝ }
 {
-    let found = parity_in(byte);
-    match found {
+    match parity_in(byte) {
         ParityAnswer::Refused(number) => ParameterAnswer::Refused(number),
         ParityAnswer::Found(parity) => ParameterAnswer::Setting(Parameter {
             data_bits: pick(byte / SWITCH_2 % 2 == 1, 7, 8),
-            parity,
+            parity: parity,
             stop_bits: pick(byte / SWITCH_5 % 2 == 1, 2, 1),
             baud: rate_at(
                 byte / SWITCH_8 % 2 == 1,

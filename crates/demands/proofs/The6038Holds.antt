@@ -2,13 +2,12 @@
 use mathlib.Core.Path.{_≡_, refl, ap, ap₂, sym, _∙_}
 use mathlib.Core.Bool.{Bool, true, false, not, _&&_, _||_, and-false, and-comm, or-comm}
 use mathlib.Core.List.{List, [], _∷_, _++_, map}
-use Prim.Native.Nat.{ℕ, suc, _+_, _-_}
+use Prim.Native.Nat.{ℕ, _-_}
 use native.Mathlib.Omega.{arith}
 use lib.Dec.{eqb}
 use lib.ListN.{length, take, length-append}
 use borrow.Author.Tests.{eqb-true}
 use Rattle.refusals.specs.Refusals.{Outcome, done, refused, unless, after}
-use Rattle.laying.specs.Laying.{within}
 use Rattle.laying.specs.OneBehindAnother.{Next, oneBehindAnother}
 use Rattle.places.specs.Places.{Place, fixed, fixedHolds, every, render}
 use Rattle.record.specs.declared.DatedLayout.the-variants.{L6021, L2000, L5500, L5050}
@@ -22,7 +21,7 @@ use Rattle.layouts.proofs.RowLaws.{row-fits}
 use Rattle.board.proofs.Laws6038.{all-256-read-or-refused, switch-1-read-as-nothing, switch-1-written-off, read-then-write, write-then-read, off-on-never-written, not-offered-is-16}
 use Rattle.trailer.specs.declared.Order.{Order}
 use Rattle.trailer.specs.declared.Order.the-variants.{AsPrinted, Exchanged}
-use Rattle.trailer.specs.Trailer.{exchangeAt, inOrder}
+use Rattle.trailer.specs.Trailer.{inOrder}
 use Rattle.trailer.proofs.TrailerLaws.{exchange-last}
 use Rattle.telegram.specs.declared.write.Setting.{Setting}
 use Rattle.telegram.specs.declared.write.Choice.the-variants.{Named, NamedIn}
@@ -33,9 +32,10 @@ use Rattle.telegram.proofs.InOrder.{telegram-seen, read-seen, reads-back}
 use Rattle.line.proofs.OrderHolds.{every-order-is-well-formed, the-order-stays}
 use Rattle.log.specs.Add.{addOf}
 use Rattle.log.proofs.AddLaws.{own-refusal}
+use Rattle.demands.specs.ProgramsOfTheLog.{adds}
 use Rattle.demands.specs.Lengths.{sevenLayouts, lengthOf}
 use Rattle.demands.specs.Numbers.{_givenWhen_, among, firstOf, _byFirst_}
-use Rattle.demands.specs.The6038.{inFrame, OnlyTheTrailerIsExchanged, ASettingWithoutAnOrderIsAsPrinted, SeveralWithoutAnOrderAreAsPrinted, NotNamedIsAsPrinted, AnExchanged5500tIsAnAsPrinted6021t, ReadInTheOtherOrderItIsTheOther, InTwoOrdersTwoListsMakeTheSameLine, isAloneAtItsLength, TheOtherOrderIs3, isTrailer, NeitherOrderIs3, TheLogTakesAsPrintedOnly, The6038IsAsAskedFor}
+use Rattle.demands.specs.The6038.{inFrame, OnlyTheTrailerIsExchanged, ASettingWithoutAnOrderIsAsPrinted, SeveralWithoutAnOrderAreAsPrinted, NotNamedIsAsPrinted, AnExchanged5500tIsAnAsPrinted6021t, ReadInTheOtherOrderItIsTheOther, InTwoOrdersTwoListsMakeTheSameLine, isAloneAtItsLength, TheOtherOrderIs3, isTrailer, NeitherOrderIs3, TheLogTakesAsPrintedOnly, TheLogTakesTheOtherForIt, The6038IsAsAskedFor}
 use Rattle.demands.proofs.TableLengths.{found}
 
 only-the-trailer : OnlyTheTrailerIsExchanged
@@ -82,13 +82,22 @@ looks-like true time = (refl, refl)
 looks-like false time = (refl, refl)
 
 read-as-the-other : ReadInTheOtherOrderItIsTheOther
-read-as-the-other control time good = (
-  reads-back Exchanged control (TimeOnly T5500 time) good,
+read-as-the-other AsPrinted control time good = (
+  ap (readIn Exchanged control) (sym (looks-like control time .1)) ∙ reads-back Exchanged control (TimeOnly T6021 time) good,
+  ap (readIn Exchanged control) (sym (looks-like control time .0)) ∙ reads-back Exchanged control (TimeOnly T5500 time) good,
+)
+read-as-the-other Exchanged control time good = (
   ap (readOf control) (looks-like control time .0) ∙ reads-back AsPrinted control (TimeOnly T6021 time) good,
+  ap (readOf control) (looks-like control time .1) ∙ reads-back AsPrinted control (TimeOnly T5500 time) good,
 )
 
 same-line : InTwoOrdersTwoListsMakeTheSameLine
-same-line time behind = ap (λ telegram. telegram ++ behind) (looks-like true time .0)
+same-line time behind good = (
+  (good, tt),
+  (good, tt),
+  λ same. let z : _≡_ {A = ℕ} 0 1 = cc in absurd (omega arith),
+  ap (λ telegram. telegram ++ behind) (looks-like true time .0),
+)
 
 -- the others: the layout is found by the length, and the trailer is not in its place
 not-in-place : (rec : Record) → isAloneAtItsLength (ownLayout rec) ≡ true
@@ -227,6 +236,9 @@ log-takes-printed : TheLogTakesAsPrintedOnly
 unfolding addOf
 log-takes-printed region rec alone = rw (own-refusal region (telegramIn Exchanged true rec) (exchanged-is-3 true rec alone))
 
+log-takes-the-other : TheLogTakesTheOtherForIt
+log-takes-the-other region time = (ap (adds region) (looks-like true time .0), ap (adds region) (looks-like true time .1))
+
 pub the-6038 : The6038IsAsAskedFor
 the-6038 =
-    (switch-1-read-as-nothing, switch-1-written-off, all-256-read-or-refused, off-on-never-written, write-then-read, read-then-write, not-offered-is-16, only-the-trailer, without-an-order, several-so, not-named, every-order-is-well-formed, the-order-stays, looks-like, read-as-the-other, same-line, other-is-3, neither-is-3, log-takes-printed)
+    (switch-1-read-as-nothing, switch-1-written-off, all-256-read-or-refused, off-on-never-written, write-then-read, read-then-write, not-offered-is-16, only-the-trailer, without-an-order, several-so, not-named, every-order-is-well-formed, the-order-stays, looks-like, read-as-the-other, same-line, other-is-3, neither-is-3, log-takes-printed, log-takes-the-other)

@@ -255,11 +255,11 @@ not-16 true L5050 other e = absurd (omega arith)
 not-16 false L5050 other e = absurd (omega arith)
 
 no-choice : NoChoiceMakesAnothersBare6021
-no-choice choice (Dated layout status weekday date time) fine other same =
+no-choice choice order (Dated layout status weekday date time) fine other same =
     let rec = Dated layout status weekday date time in
     let form = Dated L6021 status weekday date time in
-    let written = was-made choice rec (telegramOf false form) same in
-    let size : length (telegramIn (orderOf choice) (controlOf choice) (written .0)) ≡ 16 = ap length (written .2) ∙ telegram-length AsPrinted false form in
+    let written = was-made choice rec (telegramIn order false form) same in
+    let size : length (telegramIn (orderOf choice) (controlOf choice) (written .0)) ≡ 16 = ap length (written .2) ∙ telegram-length order false form in
     go choice (written .0) (written .1) (sym (telegram-length (orderOf choice) (controlOf choice) (written .0)) ∙ size)
   where
     by-setting : (setting : Setting) (r : Record) → recordBy setting (Dated layout status weekday date time) ≡ done r
@@ -275,7 +275,7 @@ no-choice choice (Dated layout status weekday date time) fine other same =
         let is : Dated L6021 status weekday date time ≡ r = cc in
         let eighteen : _≡_ {A = ℕ} 18 16 = ap (λ rec. lengthOf true (ownLayout rec)) is ∙ size in
         absurd (omega arith)
-no-choice choice (TimeOnly layout time) fine other same = let z : _≡_ {A = ℕ} 0 1 = cc in absurd (omega arith)
+no-choice choice order (TimeOnly layout time) fine other same = let z : _≡_ {A = ℕ} 0 1 = cc in absurd (omega arith)
 
 pub unnamed-writes : UnnamedWritesAreAsAskedFor
 unfolding unless within codeCharacter render isLeap monthLength monthInRange dateInRange dayExists monthStart dayOf timeInRange timeAllowed statusAllowed weekdayAllowed weekdayAgrees datedRefusal placesOf statusOut6021 bodyBytes telegramFor

@@ -37,7 +37,7 @@ abbrev pub Good : Record → Type 0
 Good rec = refusalOf rec ≡ 0
 
 -- "a named setting says control characters or not and second advance or not"; document 02, f: "the trailer order .. becomes a setting
--- of the line", so that each sentence here is of both orders
+-- of the line", so that each sentence here is of both orders. A setting without one is as printed (The6038)
 abbrev pub plain : Order → Bool → Choice
 plain order control = NamedIn (record { control = control; advance = false }) order
 

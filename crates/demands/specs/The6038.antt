@@ -11,13 +11,14 @@ use Rattle.refusals.specs.Refusals.{done, refused}
 use Rattle.ascii.specs.Control.{stx, etx, lf, cr, lfCr, crLf}
 use Rattle.calendar.specs.declared.time.Time.{Time}
 use Rattle.record.specs.declared.DatedLayout.the-variants.{L6021, L2000, L5500, L5050}
+use Rattle.record.specs.declared.TimeLayout.{TimeLayout}
 use Rattle.record.specs.declared.TimeLayout.the-variants.{T6021, T5500, T5050}
 use Rattle.record.specs.declared.Record.{Record}
 use Rattle.record.specs.declared.Record.the-variants.{TimeOnly}
 use Rattle.layouts.specs.declared.Layout.{Layout}
 use Rattle.layouts.specs.declared.Layout.the-variants as layouts
 use Rattle.layouts.specs.Layouts.{ownLayout}
-use Rattle.board.specs.RoundTrip6038.{All256ReadOrRefused, Switch1IsReadAsNothing, Switch1IsWrittenOff, ReadingThenWritingClearsSwitch1, WhatIsWrittenReadsBack, OffOnIsNeverWritten, ASettingNotOfferedIs16}
+use Rattle.board.specs.RoundTrip6038.{All256ReadOrRefused, Switch1IsReadAsNothing, Switch1IsWrittenOff, ReadingThenWritingClearsSwitch1, ASettingWrittenReadsBack, OffOnIsNeverWritten, ASettingNotOfferedIs16}
 use Rattle.trailer.specs.declared.Order.{Order}
 use Rattle.trailer.specs.declared.Order.the-variants.{AsPrinted, Exchanged}
 use Rattle.telegram.specs.declared.write.Setting.{Setting}
@@ -34,6 +35,7 @@ use Rattle.demands.specs.ProgramsOfTheLog.{adds}
 use Rattle.demands.specs.Lengths.{sevenLayouts, lengthOf}
 use Rattle.demands.specs.Numbers.{among}
 use Rattle.demands.specs.Demand2.{Good}
+use Rattle.demands.specs.Demand3.{GoodTelegrams, recordsOf}
 
 -- "Its second data string byte can exchange CR and LF": the table's trailers, and each exchanged
 abbrev pub printedTrailer : Layout → List ℕ
@@ -66,8 +68,7 @@ OnlyTheTrailerIsExchanged =
     × (telegramIn AsPrinted control rec ≡ inFrame control (text ++ printedTrailer (ownLayout rec)))
     × (telegramIn Exchanged control rec ≡ inFrame control (text ++ exchangedTrailer (ownLayout rec)))
 
--- "as-printed if not named": a setting that is named without an order writes as printed, alone and among several; and so do today's
--- reading, reader and listing read
+-- "as-printed if not named": a setting that is named without an order writes as printed, alone and among several
 abbrev pub ASettingWithoutAnOrderIsAsPrinted : Type 0
 ASettingWithoutAnOrderIsAsPrinted =
     (setting : Setting) (rec : Record) (room : ℕ) → writes (Named setting) rec room ≡ writes (NamedIn setting AsPrinted) rec room
@@ -77,6 +78,7 @@ SeveralWithoutAnOrderAreAsPrinted =
     (setting : Setting) (several : Several) (recs : List Record) (buffer : List ℕ)
     → severalAfter (Named setting) several recs buffer ≡ severalAfter (NamedIn setting AsPrinted) several recs buffer
 
+-- and so a telegram is read, a fresh reader made and a line listed where no order is named
 abbrev pub NotNamedIsAsPrinted : Type 0
 NotNamedIsAsPrinted =
     (control : Bool) (bytes : List ℕ)
@@ -89,27 +91,31 @@ AnExchanged5500tIsAnAsPrinted6021t =
     → (telegramIn Exchanged control (TimeOnly T5500 time) ≡ telegramIn AsPrinted control (TimeOnly T6021 time))
     × (telegramIn Exchanged control (TimeOnly T6021 time) ≡ telegramIn AsPrinted control (TimeOnly T5500 time))
 
--- so a good one is read as the other where the order is not the line's
-abbrev pub ReadInTheOtherOrderItIsTheOther : Type 0
-ReadInTheOtherOrderItIsTheOther =
-    (control : Bool) (time : Time) → Good (TimeOnly T5500 time)
-    → (reads Exchanged control (telegramIn Exchanged control (TimeOnly T5500 time)) ≡ done (TimeOnly T5500 time))
-    × (reads AsPrinted control (telegramIn Exchanged control (TimeOnly T5500 time)) ≡ done (TimeOnly T6021 time))
-
--- "Demand 3 therefore reads: for a line whose order is known to the reader": two lists that differ make the same line in two orders
-abbrev pub oneTime : Layout → Time → List Sent
-oneTime (layouts.Dated layout) time = []
-oneTime (layouts.TimeOnly layout) time = record { before = []; rec = TimeOnly layout time } ∷ []
-
-abbrev pub InTwoOrdersTwoListsMakeTheSameLine : Type 0
-InTwoOrdersTwoListsMakeTheSameLine =
-    (time : Time) (behind : List ℕ)
-    → bytesSent Exchanged (oneTime (layouts.TimeOnly T5500) time) behind ≡ bytesSent AsPrinted (oneTime (layouts.TimeOnly T6021) time) behind
-
--- "for the trailer check": a telegram of any other layout, whatever its record, is refused with 3 in the other order
+-- so a good one is read as the other where the order is not the line's, either way round
 abbrev pub other : Order → Order
 other AsPrinted = Exchanged
 other Exchanged = AsPrinted
+
+abbrev pub ReadInTheOtherOrderItIsTheOther : Type 0
+ReadInTheOtherOrderItIsTheOther =
+    (order : Order) (control : Bool) (time : Time) → Good (TimeOnly T5500 time)
+    → (reads (other order) control (telegramIn order control (TimeOnly T5500 time)) ≡ done (TimeOnly T6021 time))
+    × (reads (other order) control (telegramIn order control (TimeOnly T6021 time)) ≡ done (TimeOnly T5500 time))
+
+-- "Demand 3 therefore reads: for a line whose order is known to the reader": of two good lists that differ, the one makes in exchanged
+-- order the line that the other makes as printed
+abbrev pub oneTime : TimeLayout → Time → List Sent
+oneTime layout time = record { before = []; rec = TimeOnly layout time } ∷ []
+
+abbrev pub InTwoOrdersTwoListsMakeTheSameLine : Type 0
+InTwoOrdersTwoListsMakeTheSameLine =
+    (time : Time) (behind : List ℕ) → Good (TimeOnly T5500 time)
+    → GoodTelegrams (oneTime T5500 time)
+    × GoodTelegrams (oneTime T6021 time)
+    × (recordsOf (oneTime T5500 time) ≡ recordsOf (oneTime T6021 time) → ⊥)
+    × (bytesSent Exchanged (oneTime T5500 time) behind ≡ bytesSent AsPrinted (oneTime T6021 time) behind)
+
+-- "for the trailer check": a telegram of any layout but these two, whatever its record, is refused with 3 in the other order
 
 abbrev pub isAloneAtItsLength : Layout → Bool
 isAloneAtItsLength (layouts.Dated layout) = true
@@ -132,11 +138,18 @@ NeitherOrderIs3 =
     → among (map (lengthOf false) sevenLayouts) (length (text ++ first ∷ second ∷ [])) ≡ true → isTrailer first second ≡ false
     → reads order control (inFrame control (text ++ first ∷ second ∷ [])) ≡ refused 3
 
--- "The log takes as-printed order only.": any other exchanged telegram is refused by an add, and the region is as it was
+-- "The log takes as-printed order only.": an exchanged telegram of any layout but those two is refused by an add, and the region is as
+-- it was; one of those is what its bytes are as printed
 abbrev pub TheLogTakesAsPrintedOnly : Type 0
 TheLogTakesAsPrintedOnly =
     (region : List ℕ) (rec : Record) → isAloneAtItsLength (ownLayout rec) ≡ true
     → adds region (telegramIn Exchanged true rec) ≡ (refused 3, region)
+
+abbrev pub TheLogTakesTheOtherForIt : Type 0
+TheLogTakesTheOtherForIt =
+    (region : List ℕ) (time : Time)
+    → (adds region (telegramIn Exchanged true (TimeOnly T5500 time)) ≡ adds region (telegramIn AsPrinted true (TimeOnly T6021 time)))
+    × (adds region (telegramIn Exchanged true (TimeOnly T6021 time)) ≡ adds region (telegramIn AsPrinted true (TimeOnly T5500 time)))
 
 abbrev pub The6038IsAsAskedFor : Type 0
 The6038IsAsAskedFor =
@@ -147,7 +160,7 @@ The6038IsAsAskedFor =
     × All256ReadOrRefused
     × OffOnIsNeverWritten
     -- writing then reading gives the setting back, reading then writing clears switch 1 and nothing else; other settings are 16
-    × WhatIsWrittenReadsBack
+    × ASettingWrittenReadsBack
     × ReadingThenWritingClearsSwitch1
     × ASettingNotOfferedIs16
     -- "can exchange CR and LF"
@@ -166,3 +179,4 @@ The6038IsAsAskedFor =
     × TheOtherOrderIs3
     × NeitherOrderIs3
     × TheLogTakesAsPrintedOnly
+    × TheLogTakesTheOtherForIt

@@ -23,11 +23,12 @@ use Rattle.record.specs.declared.RecordAnswer.the-variants as answer
 use Rattle.record.specs.Rule.{refusalOf, carriesDate}
 use Rattle.layouts.specs.declared.Layout.the-variants as layouts
 use Rattle.layouts.specs.Layouts.{ownLayout}
+use Rattle.trailer.specs.declared.Order.{Order}
 use Rattle.trailer.specs.declared.Order.the-variants.{AsPrinted}
 use Rattle.telegram.specs.declared.write.Choice.{Choice}
 use Rattle.telegram.specs.declared.write.Choice.the-variants.{Named, Unnamed}
 use Rattle.telegram.specs.declared.several.Several.{Several}
-use Rattle.telegram.specs.Writing.{telegramOf, as6021, judgedOf, telegramFor, noneYet, withMore, unlessEnded, severalAfter, severalAll}
+use Rattle.telegram.specs.Writing.{telegramIn, telegramOf, as6021, judgedOf, telegramFor, noneYet, withMore, unlessEnded, severalAfter, severalAll}
 use Rattle.line.specs.declared.Reader.{Reader}
 use Rattle.line.specs.declared.Heard.{Heard}
 use Rattle.line.specs.declared.Heard.the-variants.{Event}
@@ -128,10 +129,10 @@ SeveralNamedBareDoSo =
     (several : Several) (recs : List Record) (buffer : List ℕ) → EachHolds Is6021 recs
     → severalAfter (named false) several recs buffer ≡ severalBefore several recs buffer
 
--- but of a record of another layout no choice makes the bare 6021
+-- but of a record of another layout no choice makes the bare 6021, in either order
 abbrev pub NoChoiceMakesAnothersBare6021 : Type 0
 NoChoiceMakesAnothersBare6021 =
-    (choice : Choice) (rec : Record) → GoodDated rec → (Is6021 rec → ⊥) → telegramFor choice rec ≡ done (telegramOf false (form6021 rec)) → ⊥
+    (choice : Choice) (order : Order) (rec : Record) → GoodDated rec → (Is6021 rec → ⊥) → telegramFor choice rec ≡ done (telegramIn order false (form6021 rec)) → ⊥
 
 -- two short cases, P1 and P11 of the boundary table, in the 16 bytes that were enough
 abbrev pub meterCases : List (Record × List ℕ)

@@ -2,14 +2,14 @@
 use mathlib.Core.Path.{_≡_, refl, ap, sym, _∙_}
 use mathlib.Core.Bool.{Bool, true, false, cond}
 use mathlib.Core.List.{List, [], _∷_, _++_, append-nil, append-assoc}
-use Prim.Native.Nat.{ℕ, _+_, _-_, _%_, _^_}
+use Prim.Native.Nat.{ℕ, _+_, _-_}
 use native.Mathlib.Omega.{arith}
 use lib.Dec.{eqb, leb}
 use lib.ListN.{length, drop, length-append}
 use lib.Seq.{drop-append-seam}
 use borrow.Author.Tests.{eqb-true}
 use Rattle.ascii.specs.Control.{stx, etx}
-use Rattle.line.specs.Line.{places, Line, heldAfter, step, startOf, freshLine}
+use Rattle.line.specs.Line.{places, Line, heldAfter, step, freshLine}
 use Rattle.line.specs.Cuts.{lineAfter}
 use Rattle.line.specs.Sentences.{TheStartIsWhereTheHeldBegin}
 use Rattle.line.proofs.CutLaws.{good-fresh, good-after}

@@ -8,11 +8,11 @@ use lib.Dec.{ltb}
 use lib.ListN.{length, take, drop, length-take, length-drop}
 use lib.Seq.{take-all}
 use borrow.Author.Tests.{ne-eqb, ltb-true, ltb-false}
-use Rattle.refusals.specs.Refusals.{Outcome, done, refused}
+use Rattle.refusals.specs.Refusals.{done, refused}
 use Rattle.laying.specs.Laying.{laid}
 use Rattle.laying.proofs.LayingLaws.{laid-short, laid-fits, within-done, stands}
 use Rattle.trailer.specs.declared.Order.{Order}
-use Rattle.trailer.specs.declared.Order.the-variants.{Exchanged}
+use Rattle.trailer.specs.declared.Order.the-variants.{AsPrinted, Exchanged}
 use Rattle.trailer.specs.Trailer.{trailerAt, exchangeAt}
 use Rattle.trailer.proofs.TrailerLaws.{exchange-before, exchange-take, length-in-order}
 use Rattle.record.specs.declared.Record.{Record}
@@ -61,15 +61,24 @@ module _ (order : Order) (control : Bool) (bytes : List ℕ) where
   pub too-long : 25 < length bytes → refused 1 ≡ readIn order control bytes
   too-long long = unread (no-layout _ (λ n least most is. omega (arith, is, same-size, body-size control bytes .1)))
 
--- a copy whose trailer was exchanged is read as printed
-pub copy-read : (control : Bool) (bytes copy : List ℕ) → 3 ≤ length bytes → take (length bytes) copy ≡ take (length bytes) bytes
+-- a copy whose trailer was exchanged is read as printed; what is too short for a trailer is too short for a telegram
+pub copy-read : (control : Bool) (bytes copy : List ℕ) → take (length bytes) copy ≡ take (length bytes) bytes
     → readOf control (take (length bytes) (exchangeAt (trailerAt control (length bytes)) copy)) ≡ readIn Exchanged control bytes
-copy-read control bytes copy long same =
-    let at = trailerAt control (length bytes) in
-    ap (readOf control)
-    (exchange-take at (length bytes) copy (trailer-fits control (length bytes) long)
-    ∙ ap (exchangeAt at) (same ∙ take-all (length bytes) bytes (omega arith)))
-    ∙ sym (read-seen Exchanged control bytes)
+copy-read control bytes copy same = go (ltb (length bytes) 3) refl
+  where
+    at : ℕ
+    at = trailerAt control (length bytes)
+
+    go : (short : Bool) → ltb (length bytes) 3 ≡ short → readOf control (take (length bytes) (exchangeAt at copy)) ≡ readIn Exchanged control bytes
+    go true is =
+        let short = ltb-true (length bytes) 3 is in
+        let few = length-take (length bytes) (exchangeAt at copy) in
+        sym (too-short AsPrinted control (take (length bytes) (exchangeAt at copy)) (omega arith)) ∙ too-short Exchanged control bytes (omega arith)
+    go false is =
+        ap (readOf control)
+        (exchange-take at (length bytes) copy (trailer-fits control (length bytes) (ltb-false (length bytes) 3 is))
+        ∙ ap (exchangeAt at) (same ∙ take-all (length bytes) bytes (omega arith)))
+        ∙ sym (read-seen Exchanged control bytes)
 
 -- a telegram that was laid, and whose trailer was exchanged, is the one in exchanged order
 module _ (control : Bool) (rec : Record) (buffer : List ℕ) where

@@ -17,7 +17,6 @@ use Rattle.record.proofs.RuleLaws as rule
 use Rattle.telegram.specs.declared.write.Setting.{Setting}
 use Rattle.telegram.specs.declared.write.Choice.{Choice}
 use Rattle.telegram.specs.declared.write.Choice.the-variants.{Named, NamedIn, Unnamed}
-use Rattle.trailer.specs.declared.Order.{Order}
 use Rattle.telegram.specs.Reading.{readIn, readOf}
 use Rattle.telegram.specs.Writing.{judgedOf, as6021, recordBy, recordToWrite, controlOf, orderOf, telegramFor, written}
 use Rattle.telegram.proofs.WriteLaws.{was-made}

@@ -7,7 +7,7 @@ use Prim.Native.Nat.{ℕ}
 use Prim.Native.String.{String}
 use Rattle.refusals.specs.Refusals.{Outcome, done, refused}
 use Rattle.ascii.specs.Ascii.{ascii}
-use Rattle.calendar.specs.Literals.{date, time}
+use Rattle.calendar.specs.Literals.{time}
 use Rattle.record.specs.declared.DatedLayout.the-variants.{L6021, L2000, L5500, L5050}
 use Rattle.record.specs.declared.TimeLayout.the-variants.{T6021, T5500, T5050}
 use Rattle.record.specs.declared.Record.{Record}

@@ -46,11 +46,11 @@ as6021 (TimeOnly layout time) = refused 14
 abbrev pub judgedOf : Record → Outcome Record
 judgedOf rec = unless (refusalOf rec) rec
 
--- which record is written: with second advance "the telegram carries the next second"; "if a caller names no setting, a write is
--- 6021 whatever layout the record has, .. without second advance"
+-- which record a setting writes: with second advance "the telegram carries the next second"
 abbrev pub recordBy : Setting → Record → Outcome Record
 recordBy setting rec = cond (setting .advance) (nextSecondOf rec) (judgedOf rec)
 
+-- and which a choice; "if a caller names no setting, a write is 6021 whatever layout the record has, .. without second advance"
 abbrev pub recordToWrite : Choice → Record → Outcome Record
 recordToWrite (Named setting) rec = recordBy setting rec
 recordToWrite (NamedIn setting order) rec = recordBy setting rec

@@ -17,9 +17,7 @@ ghost use Rattle.record.specs.Answers.{recordAnswer};
 ghost use Rattle.trailer.specs.declared.Order.the-variants.{Exchanged};
 ghost use Rattle.telegram.specs.Reading.{framed, readBodyAs, readIn, readOf};
 
-// No telegram is shorter or longer, with STX and ETX or without.
-const SHORTEST: usize = 8;
-
+// No telegram is longer, with STX and ETX or without.
 const LONGEST: usize = 25;
 
 // A body of a known layout: what stands between STX and ETX.
@@ -90,7 +88,7 @@ pub fn read(bytes: &[u8], control: bool) -> RecordAnswer
     }
 }
 
-// Reads the first bytes of others.
+// Reads so many bytes at the front of others, or all.
 fn read_first(bytes: &[u8], length: usize, control: bool) -> RecordAnswer
     ensures { λ r. ⌜ recordAnswer r ≡ readOf control (take length (now (bytes .entry))) ⌝ }
 {
@@ -105,9 +103,6 @@ fn read_exchanged(bytes: &[u8], control: bool) -> RecordAnswer
     ensures { λ r. ⌜ recordAnswer r ≡ readIn Exchanged control (now (bytes .entry)) ⌝ }
 {
     let length = bytes.len();
-    if length < SHORTEST {
-        return RecordAnswer::Refused(LENGTH);
-    }
     if LONGEST < length {
         return RecordAnswer::Refused(LENGTH);
     }

@@ -161,7 +161,8 @@ pub(crate) fn choice(number: u8) -> Choice {
         0 => Choice::Unnamed,
         1..=4 => Choice::Named(setting(number - 1)),
         5..=8 => Choice::NamedIn(setting(number - 5), Order::AsPrinted),
-        _ => Choice::NamedIn(setting((number - 9) % 4), Order::Exchanged),
+        9..=12 => Choice::NamedIn(setting(number - 9), Order::Exchanged),
+        _ => Choice::Unnamed,
     }
 }
 

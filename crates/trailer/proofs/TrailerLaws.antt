@@ -79,9 +79,3 @@ exchange-last text first second =
 pub length-in-order : (order : Order) (body : List ℕ) → length (inOrder order body) ≡ length body
 length-in-order AsPrinted body = refl
 length-in-order Exchanged body = length-exchange (length body - 2) body
-
-pub in-order-twice : (order : Order) (body : List ℕ) → inOrder order (inOrder order body) ≡ body
-in-order-twice AsPrinted body = refl
-in-order-twice Exchanged body =
-    ap (λ n. exchangeAt (n - 2) (exchangeAt (length body - 2) body)) (length-exchange (length body - 2) body)
-    ∙ exchange-twice (length body - 2) body

@@ -6,10 +6,11 @@ use lib.ListN.{length}
 use Rattle.trailer.specs.declared.Order.{Order}
 use Rattle.trailer.specs.declared.Order.the-variants.{AsPrinted, Exchanged}
 
--- the trailer is the last two bytes, before ETX where there are control characters: where it begins in a telegram of so many bytes
+-- the trailer is the last two bytes, before ETX where there are control characters: so many bytes stand from it on
 abbrev pub sizeFrom : Bool → ℕ
 sizeFrom control = cond control 3 2
 
+-- where it begins in a telegram of so many bytes; at 0 in one that is too short
 abbrev pub trailerAt : Bool → ℕ → ℕ
 trailerAt control size = size - sizeFrom control
 

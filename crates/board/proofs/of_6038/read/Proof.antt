@@ -7,11 +7,11 @@ use Rattle.board.proofs.of_6038.read.Tie as tie
 parity-in-requires : tie.Need-parity-in-requires
 parity-in-requires c κs = search needs
 
-enum-known-found : tie.Need-enum-known-found
-enum-known-found c = search needs
+enum-known-number : tie.Need-enum-known-number
+enum-known-number c = search needs
 
-enum-known-found-2 : tie.Need-enum-known-found-2
-enum-known-found-2 c = search needs
+enum-known-parity : tie.Need-enum-known-parity
+enum-known-parity c = search needs
 
 pick-requires : tie.Need-pick-requires
 pick-requires c κs = search needs
@@ -24,13 +24,13 @@ rate-at-requires c κs = search needs
 
 returns : tie.Need-returns
 unfolding parameterIn
-returns c = let found = rw (c .before .found .given .1) at (c .before .before .before .parity-in .ensures) in rw (← found)
+returns c = let found = rw (c .before .number .given .1) at (c .before .before .before .parity-in .ensures) in rw (← found)
 
 returns-2 : tie.Need-returns-2
 unfolding parameterIn
 returns-2 c =
     let told = c .before .before .before .before in
-    let found = rw (told .found2 .given .1) at (told .before .before .parity-in .ensures) in
+    let found = rw (told .parity .given .1) at (told .before .before .parity-in .ensures) in
     rw (← found, c .before .before .pick .ensures, c .before .pick2 .ensures, c .rate-at .ensures)
 
 pub read-spec : {M : Type 1} → statement M
@@ -38,8 +38,8 @@ read-spec =
     tie.close
     (tie.spec
     parity-in-requires
-    enum-known-found
-    enum-known-found-2
+    enum-known-number
+    enum-known-parity
     pick-requires
     pick-requires-2
     rate-at-requires

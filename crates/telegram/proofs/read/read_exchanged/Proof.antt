@@ -5,7 +5,7 @@ use native.Mathlib.Omega.{arith}
 use lib.ListN.{length, length-set, take, getD}
 use borrow.Author.Needs.{needs}
 use Rattle.laying.proofs.CopyLaws.{copy-step}
-use Rattle.telegram.proofs.ExchangeLaws.{too-short, too-long, copy-read}
+use Rattle.telegram.proofs.ExchangeLaws.{too-long, copy-read}
 use Rattle.trailer.specs.Trailer.{exchangeAt}
 use Rattle.telegram.specs.Reading.{readOf}
 use Rattle.trailer.specs.declared.Order.the-variants.{Exchanged}
@@ -19,10 +19,7 @@ abbrev μ-loop : tie.MeasureT-loop
 μ-loop bytes control size copy₀ at₀ copy at = size - at
 
 returns : tie.Need-returns Inv-loop μ-loop
-returns c = too-short Exchanged (c .before .before .args .control) (c .before .before .args .bytes .now) (c .if1 .taken)
-
-returns-2 : tie.Need-returns-2 Inv-loop μ-loop
-returns-2 c = too-long Exchanged (c .before .before .before .args .control) (c .before .before .before .args .bytes .now) (c .if2 .taken)
+returns c = too-long Exchanged (c .before .before .args .control) (c .before .before .args .bytes .now) (c .if1 .taken)
 
 loop-holds : tie.Need-loop-holds Inv-loop μ-loop
 loop-holds c = (omega arith, refl, refl)
@@ -31,7 +28,7 @@ shared-slice-read-copy : tie.Need-shared-slice-read-copy Inv-loop μ-loop
 shared-slice-read-copy c = search needs
 
 array-write-copy : tie.Need-array-write-copy Inv-loop μ-loop
-array-write-copy c = omega (arith, c .before .before .before .if2 .left)
+array-write-copy c = omega (arith, c .before .before .before .if1 .left)
 
 add-at : tie.Need-add-at Inv-loop μ-loop
 add-at c = omega arith
@@ -41,11 +38,11 @@ loop-less c = omega arith
 
 loop-again : tie.Need-loop-again Inv-loop μ-loop
 loop-again c =
-    let bytes = c .before .before .before .before .before .before .args .bytes .now in
+    let bytes = c .before .before .before .before .before .args .bytes .now in
     let l = c .before .before .loop in (
       omega arith,
       length-set (l .copy) (l .at) (getD bytes (l .at) 0) ∙ l .inv .1,
-      copy-step bytes (l .copy) (l .at) (omega arith) (omega (arith, c .before .before .before .if2 .left, l .inv .1)) (l .inv .2),
+      copy-step bytes (l .copy) (l .at) (omega arith) (omega (arith, c .before .before .before .if1 .left, l .inv .1)) (l .inv .2),
     )
 
 slice-aggregate-exchange : tie.Need-slice-aggregate-exchange Inv-loop μ-loop
@@ -63,15 +60,15 @@ slice-aggregate-read-first c = search needs
 read-first-requires : tie.Need-read-first-requires Inv-loop μ-loop
 read-first-requires c κs = search needs
 
-returns-3 : tie.Need-returns-3 Inv-loop μ-loop
-returns-3 c =
-    let start = c .before .before .before .before .before .before .before .before .before .before .before .args in
+returns-2 : tie.Need-returns-2 Inv-loop μ-loop
+returns-2 c =
+    let start = c .before .before .before .before .before .before .before .before .before .before .args in
     let l = c .before .before .before .before .before .before .before .loop in
     let all : l .at ≡ length (start .bytes .now) = omega (arith, l .inv .0, c .before .before .before .before .before .before .loop-test) in
     let copied = subst (λ n. take n (l .copy) ≡ take n (start .bytes .now)) all (l .inv .2) in
     c .read-first .ensures
     ∙ ap (λ bytes. readOf (start .control) (take (length (start .bytes .now)) bytes)) (c .before .before .before .exchange .ensures ∙ ap (λ at. exchangeAt at (l .copy)) (c .before .before .before .before .place-in .ensures))
-    ∙ copy-read (start .control) (start .bytes .now) (l .copy) (omega (arith, c .before .before .before .before .before .before .before .before .before .if1 .left)) copied
+    ∙ copy-read (start .control) (start .bytes .now) (l .copy) copied
 
 pub read-exchanged-spec : {M : Type 1} → statement M
 read-exchanged-spec =
@@ -80,7 +77,6 @@ read-exchanged-spec =
     Inv-loop
     μ-loop
     returns
-    returns-2
     loop-holds
     shared-slice-read-copy
     array-write-copy
@@ -92,4 +88,4 @@ read-exchanged-spec =
     exchange-requires
     slice-aggregate-read-first
     read-first-requires
-    returns-3)
+    returns-2)
