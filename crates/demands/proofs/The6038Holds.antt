@@ -29,13 +29,15 @@ use Rattle.telegram.specs.Reading.{bodyRefusal, readBodyAs, readIn, readOf}
 use Rattle.telegram.specs.Writing.{bodyBytes, telegramIn, telegramFor, nextTelegram, withMore, unlessEnded, severalAfter}
 use Rattle.telegram.proofs.Frames.{body-of-frame, frame-is-framed}
 use Rattle.telegram.proofs.InOrder.{telegram-seen, read-seen, reads-back}
+use Rattle.leitch.specs.Row.{replyRow}
+use Rattle.leitch.specs.Writing.{replyBytes}
 use Rattle.line.proofs.OrderHolds.{every-order-is-well-formed, the-order-stays}
 use Rattle.log.specs.Add.{addOf}
 use Rattle.log.proofs.AddLaws.{own-refusal}
 use Rattle.demands.specs.ProgramsOfTheLog.{adds}
 use Rattle.demands.specs.Lengths.{sevenLayouts, lengthOf}
 use Rattle.demands.specs.Numbers.{_givenWhen_, among, firstOf, _byFirst_}
-use Rattle.demands.specs.The6038.{inFrame, OnlyTheTrailerIsExchanged, ASettingWithoutAnOrderIsAsPrinted, SeveralWithoutAnOrderAreAsPrinted, NotNamedIsAsPrinted, AnExchanged5500tIsAnAsPrinted6021t, ReadInTheOtherOrderItIsTheOther, InTwoOrdersTwoListsMakeTheSameLine, isAloneAtItsLength, TheOtherOrderIs3, isTrailer, NeitherOrderIs3, TheLogTakesAsPrintedOnly, TheLogTakesTheOtherForIt, The6038IsAsAskedFor}
+use Rattle.demands.specs.The6038.{inFrame, OnlyTheTrailerIsExchanged, ASettingWithoutAnOrderIsAsPrinted, SeveralWithoutAnOrderAreAsPrinted, NotNamedIsAsPrinted, AnExchanged5500tIsAnAsPrinted6021t, ReadInTheOtherOrderItIsTheOther, InTwoOrdersTwoListsMakeTheSameLine, isAloneAtItsLength, TheOtherOrderIs3, isTrailer, NeitherOrderIs3, TheLogTakesAsPrintedOnly, TheLogTakesTheOtherForIt, TheReplyKeepsCrLf, The6038IsAsAskedFor}
 use Rattle.demands.proofs.TableLengths.{found}
 
 only-the-trailer : OnlyTheTrailerIsExchanged
@@ -239,6 +241,10 @@ log-takes-printed region rec alone = rw (own-refusal region (telegramIn Exchange
 log-takes-the-other : TheLogTakesTheOtherForIt
 log-takes-the-other region time = (ap (adds region) (looks-like true time .0), ap (adds region) (looks-like true time .1))
 
+keeps-cr-lf : TheReplyKeepsCrLf
+unfolding replyBytes replyRow render
+keeps-cr-lf reply = (take 29 (replyBytes reply), refl)
+
 pub the-6038 : The6038IsAsAskedFor
 the-6038 =
-    (switch-1-read-as-nothing, switch-1-written-off, all-256-read-or-refused, off-on-never-written, write-then-read, read-then-write, not-offered-is-16, only-the-trailer, without-an-order, several-so, not-named, every-order-is-well-formed, the-order-stays, looks-like, read-as-the-other, same-line, other-is-3, neither-is-3, log-takes-printed, log-takes-the-other)
+    (switch-1-read-as-nothing, switch-1-written-off, all-256-read-or-refused, off-on-never-written, write-then-read, read-then-write, not-offered-is-16, only-the-trailer, without-an-order, several-so, not-named, every-order-is-well-formed, the-order-stays, looks-like, read-as-the-other, same-line, other-is-3, neither-is-3, log-takes-printed, log-takes-the-other, keeps-cr-lf)

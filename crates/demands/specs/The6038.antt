@@ -26,6 +26,8 @@ use Rattle.telegram.specs.declared.write.Choice.the-variants.{Named, NamedIn}
 use Rattle.telegram.specs.declared.several.Several.{Several}
 use Rattle.telegram.specs.Reading.{readOf}
 use Rattle.telegram.specs.Writing.{telegramIn, severalAfter}
+use Rattle.leitch.specs.declared.Reply.{Reply}
+use Rattle.leitch.specs.Writing.{replyBytes}
 use Rattle.line.specs.Line.{freshIn, freshReader}
 use Rattle.line.specs.Sentences.{EveryOrderIsWellFormed, TheOrderStays}
 use Rattle.line.specs.SentLine.{Sent, bytesSent}
@@ -116,7 +118,6 @@ InTwoOrdersTwoListsMakeTheSameLine =
     × (bytesSent Exchanged (oneTime T5500 time) behind ≡ bytesSent AsPrinted (oneTime T6021 time) behind)
 
 -- "for the trailer check": a telegram of any layout but these two, whatever its record, is refused with 3 in the other order
-
 abbrev pub isAloneAtItsLength : Layout → Bool
 isAloneAtItsLength (layouts.Dated layout) = true
 isAloneAtItsLength (layouts.TimeOnly T6021) = false
@@ -151,6 +152,10 @@ TheLogTakesTheOtherForIt =
     → (adds region (telegramIn Exchanged true (TimeOnly T5500 time)) ≡ adds region (telegramIn AsPrinted true (TimeOnly T6021 time)))
     × (adds region (telegramIn Exchanged true (TimeOnly T6021 time)) ≡ adds region (telegramIn AsPrinted true (TimeOnly T5500 time)))
 
+-- the reply to a Leitch generator has no order: "with CR LF" on every line
+abbrev pub TheReplyKeepsCrLf : Type 0
+TheReplyKeepsCrLf = (reply : Reply) → (text : List ℕ) × (replyBytes reply ≡ text ++ crLf)
+
 abbrev pub The6038IsAsAskedFor : Type 0
 The6038IsAsAskedFor =
     -- "switch 1 unused", "read as nothing and written off"
@@ -180,3 +185,4 @@ The6038IsAsAskedFor =
     × NeitherOrderIs3
     × TheLogTakesAsPrintedOnly
     × TheLogTakesTheOtherForIt
+    × TheReplyKeepsCrLf
