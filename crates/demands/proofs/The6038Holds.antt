@@ -9,7 +9,7 @@ use lib.ListN.{length, take, length-append}
 use borrow.Author.Tests.{eqb-true}
 use Rattle.refusals.specs.Refusals.{Outcome, done, refused, unless, after}
 use Rattle.laying.specs.OneBehindAnother.{Next, oneBehindAnother}
-use Rattle.places.specs.Places.{Place, fixed, fixedHolds, every, render}
+use Rattle.places.specs.Places.{Place, fixed, fixedHolds, every, byteAt, render}
 use Rattle.record.specs.declared.DatedLayout.the-variants.{L6021, L2000, L5500, L5050}
 use Rattle.record.specs.declared.TimeLayout.the-variants.{T6021, T5500, T5050}
 use Rattle.record.specs.declared.Record.{Record}
@@ -18,6 +18,7 @@ use Rattle.layouts.specs.declared.Layout.{Layout}
 use Rattle.layouts.specs.declared.Layout.the-variants as layouts
 use Rattle.layouts.specs.Layouts.{placesOf, ownLayout, layoutOf}
 use Rattle.layouts.proofs.RowLaws.{row-fits}
+use Rattle.layouts.specs.Coding.{digitsOut}
 use Rattle.board.proofs.Laws6038.{all-256-read-or-refused, switch-1-read-as-nothing, switch-1-written-off, read-then-write, write-then-read, off-on-never-written, not-offered-is-16}
 use Rattle.trailer.specs.declared.Order.{Order}
 use Rattle.trailer.specs.declared.Order.the-variants.{AsPrinted, Exchanged}
@@ -37,25 +38,59 @@ use Rattle.log.proofs.AddLaws.{own-refusal}
 use Rattle.demands.specs.ProgramsOfTheLog.{adds}
 use Rattle.demands.specs.Lengths.{sevenLayouts, lengthOf}
 use Rattle.demands.specs.Numbers.{_givenWhen_, among, firstOf, _byFirst_}
-use Rattle.demands.specs.The6038.{inFrame, OnlyTheTrailerIsExchanged, ASettingWithoutAnOrderIsAsPrinted, SeveralWithoutAnOrderAreAsPrinted, NotNamedIsAsPrinted, AnExchanged5500tIsAnAsPrinted6021t, ReadInTheOtherOrderItIsTheOther, InTwoOrdersTwoListsMakeTheSameLine, isAloneAtItsLength, TheOtherOrderIs3, isTrailer, NeitherOrderIs3, TheLogTakesAsPrintedOnly, TheLogTakesTheOtherForIt, TheReplyKeepsCrLf, The6038IsAsAskedFor}
+use Rattle.demands.specs.The6038.{printedTrailer, exchangedTrailer, inFrame, OnlyTheTrailerIsExchanged, ASettingWithoutAnOrderIsAsPrinted, SeveralWithoutAnOrderAreAsPrinted, NotNamedIsAsPrinted, AnExchanged5500tIsAnAsPrinted6021t, ReadInTheOtherOrderItIsTheOther, InTwoOrdersTwoListsMakeTheSameLine, isAloneAtItsLength, TheOtherOrderIs3, isTrailer, NeitherOrderIs3, TheLogTakesAsPrintedOnly, TheLogTakesTheOtherForIt, TheReplyKeepsCrLf, The6038IsAsAskedFor}
 use Rattle.demands.proofs.TableLengths.{found}
 
+-- each row ends in its trailer
+pub record Ends (layout : Layout) : Type 0 where
+  pub row : List Place
+  pub first : ℕ
+  pub second : ℕ
+  pub is : placesOf layout ≡ row ++ fixed first ∷ fixed second ∷ []
+  pub printed : printedTrailer layout ≡ first ∷ second ∷ []
+  pub exchanged : exchangedTrailer layout ≡ second ∷ first ∷ []
+  pub trailer : isTrailer first second ≡ true
+
+row-ends : (layout : Layout) → Ends layout
+unfolding placesOf
+row-ends (layouts.Dated L6021) =
+    record { row = take 14 (placesOf (layouts.Dated L6021)); first = 10; second = 13; is = refl; printed = refl; exchanged = refl; trailer = refl }
+row-ends (layouts.Dated L2000) =
+    record { row = take 16 (placesOf (layouts.Dated L2000)); first = 10; second = 13; is = refl; printed = refl; exchanged = refl; trailer = refl }
+row-ends (layouts.Dated L5500) =
+    record { row = take 17 (placesOf (layouts.Dated L5500)); first = 13; second = 10; is = refl; printed = refl; exchanged = refl; trailer = refl }
+row-ends (layouts.Dated L5050) =
+    record { row = take 21 (placesOf (layouts.Dated L5050)); first = 13; second = 10; is = refl; printed = refl; exchanged = refl; trailer = refl }
+row-ends (layouts.TimeOnly T6021) =
+    record { row = take 6 (placesOf (layouts.TimeOnly T6021)); first = 10; second = 13; is = refl; printed = refl; exchanged = refl; trailer = refl }
+row-ends (layouts.TimeOnly T5500) =
+    record { row = take 6 (placesOf (layouts.TimeOnly T5500)); first = 13; second = 10; is = refl; printed = refl; exchanged = refl; trailer = refl }
+row-ends (layouts.TimeOnly T5050) =
+    record { row = take 9 (placesOf (layouts.TimeOnly T5050)); first = 13; second = 10; is = refl; printed = refl; exchanged = refl; trailer = refl }
+
+-- and so a telegram does, in its frame
+body-ends : (row : List Place) (digits : List ℕ) (first second : ℕ)
+    → map (byteAt digits) (row ++ fixed first ∷ fixed second ∷ []) ≡ map (byteAt digits) row ++ first ∷ second ∷ []
+body-ends [] digits first second = refl
+body-ends (place ∷ row) digits first second = ap (_∷_ (byteAt digits place)) (body-ends row digits first second)
+
+framed-so : (order : Order) (control : Bool) (rec : Record) → telegramIn order control rec ≡ inFrame control (inOrder order (bodyBytes rec))
+framed-so order true rec = refl
+framed-so order false rec = refl
+
 only-the-trailer : OnlyTheTrailerIsExchanged
-unfolding bodyBytes render placesOf
-only-the-trailer true (Dated L6021 status weekday date time) = (take 14 (bodyBytes (Dated L6021 status weekday date time)), refl, refl)
-only-the-trailer false (Dated L6021 status weekday date time) = (take 14 (bodyBytes (Dated L6021 status weekday date time)), refl, refl)
-only-the-trailer true (Dated L2000 status weekday date time) = (take 16 (bodyBytes (Dated L2000 status weekday date time)), refl, refl)
-only-the-trailer false (Dated L2000 status weekday date time) = (take 16 (bodyBytes (Dated L2000 status weekday date time)), refl, refl)
-only-the-trailer true (Dated L5500 status weekday date time) = (take 17 (bodyBytes (Dated L5500 status weekday date time)), refl, refl)
-only-the-trailer false (Dated L5500 status weekday date time) = (take 17 (bodyBytes (Dated L5500 status weekday date time)), refl, refl)
-only-the-trailer true (Dated L5050 status weekday date time) = (take 21 (bodyBytes (Dated L5050 status weekday date time)), refl, refl)
-only-the-trailer false (Dated L5050 status weekday date time) = (take 21 (bodyBytes (Dated L5050 status weekday date time)), refl, refl)
-only-the-trailer true (TimeOnly T6021 time) = (take 6 (bodyBytes (TimeOnly T6021 time)), refl, refl)
-only-the-trailer false (TimeOnly T6021 time) = (take 6 (bodyBytes (TimeOnly T6021 time)), refl, refl)
-only-the-trailer true (TimeOnly T5500 time) = (take 6 (bodyBytes (TimeOnly T5500 time)), refl, refl)
-only-the-trailer false (TimeOnly T5500 time) = (take 6 (bodyBytes (TimeOnly T5500 time)), refl, refl)
-only-the-trailer true (TimeOnly T5050 time) = (take 9 (bodyBytes (TimeOnly T5050 time)), refl, refl)
-only-the-trailer false (TimeOnly T5050 time) = (take 9 (bodyBytes (TimeOnly T5050 time)), refl, refl)
+unfolding bodyBytes render
+only-the-trailer control rec =
+    let ends = row-ends (ownLayout rec) in
+    let digits = digitsOut rec in
+    let text = map (byteAt digits) (ends .row) in
+    let body : bodyBytes rec ≡ text ++ ends .first ∷ ends .second ∷ [] =
+    ap (map (byteAt digits)) (ends .is) ∙ body-ends (ends .row) digits (ends .first) (ends .second) in (
+      text,
+      framed-so AsPrinted control rec ∙ ap (inFrame control) (body ∙ ap (_++_ text) (sym (ends .printed))),
+      framed-so Exchanged control rec
+          ∙ ap (inFrame control) (ap (inOrder Exchanged) body ∙ exchange-last text (ends .first) (ends .second) ∙ ap (_++_ text) (sym (ends .exchanged))),
+    )
 
 -- as printed if not named
 without-an-order : ASettingWithoutAnOrderIsAsPrinted
@@ -125,10 +160,6 @@ wrong-place : (layout : Layout) (body : List ℕ) → every fixedHolds (placesOf
 unfolding readBodyAs bodyRefusal unless
 wrong-place layout body wrong = rw wrong
 
-framed-so : (order : Order) (control : Bool) (rec : Record) → telegramIn order control rec ≡ inFrame control (inOrder order (bodyBytes rec))
-framed-so order true rec = refl
-framed-so order false rec = refl
-
 exchanged-is-3 : (control : Bool) (rec : Record) → isAloneAtItsLength (ownLayout rec) ≡ true → readOf control (telegramIn Exchanged control rec) ≡ refused 3
 exchanged-is-3 control rec alone =
     let body = inOrder Exchanged (bodyBytes rec) in
@@ -145,24 +176,7 @@ other-is-3 AsPrinted control rec alone =
     ∙ exchanged-is-3 control rec alone
 other-is-3 Exchanged control rec alone = exchanged-is-3 control rec alone
 
--- neither: each row ends in the one trailer or the other
-pub record Ends (layout : Layout) : Type 0 where
-  pub row : List Place
-  pub first : ℕ
-  pub second : ℕ
-  pub is : placesOf layout ≡ row ++ fixed first ∷ fixed second ∷ []
-  pub trailer : isTrailer first second ≡ true
-
-row-ends : (layout : Layout) → Ends layout
-unfolding placesOf
-row-ends (layouts.Dated L6021) = record { row = take 14 (placesOf (layouts.Dated L6021)); first = 10; second = 13; is = refl; trailer = refl }
-row-ends (layouts.Dated L2000) = record { row = take 16 (placesOf (layouts.Dated L2000)); first = 10; second = 13; is = refl; trailer = refl }
-row-ends (layouts.Dated L5500) = record { row = take 17 (placesOf (layouts.Dated L5500)); first = 13; second = 10; is = refl; trailer = refl }
-row-ends (layouts.Dated L5050) = record { row = take 21 (placesOf (layouts.Dated L5050)); first = 13; second = 10; is = refl; trailer = refl }
-row-ends (layouts.TimeOnly T6021) = record { row = take 6 (placesOf (layouts.TimeOnly T6021)); first = 10; second = 13; is = refl; trailer = refl }
-row-ends (layouts.TimeOnly T5500) = record { row = take 6 (placesOf (layouts.TimeOnly T5500)); first = 13; second = 10; is = refl; trailer = refl }
-row-ends (layouts.TimeOnly T5050) = record { row = take 9 (placesOf (layouts.TimeOnly T5050)); first = 13; second = 10; is = refl; trailer = refl }
-
+-- neither
 not-these : (p q first second : ℕ) → isTrailer p q ≡ true → isTrailer first second ≡ false → (eqb first p && (eqb second q && true)) ≡ false
 not-these p q first second is-one is-none = go (eqb first p) (eqb second q) refl refl
   where
