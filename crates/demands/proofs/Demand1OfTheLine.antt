@@ -20,7 +20,7 @@ use Rattle.telegram.specs.Reading.{bodyIn, carried, readIn}
 use Rattle.telegram.proofs.Frames.{frame-is-framed}
 use Rattle.line.specs.declared.Reader.{Reader}
 use Rattle.line.specs.declared.Fed.{Fed}
-use Rattle.line.specs.Line.{places, longest, Line, Told, nothing, event, Feeding, toldBy, toldByEnd, step, startOf, allPlain, isStarted, stopOr, feedOf, lineOf, readerOf, heardFor, fedFor, wellFormed, feedReader, endReader}
+use Rattle.line.specs.Line.{places, longest, Line, Told, nothing, event, Feeding, toldBy, toldByEnd, step, startOf, allPlain, isStarted, stopOr, feedOf, lineOf, readerOf, heardFor, fedFor, wellFormed, feedReaderAt, endReaderAt}
 use Rattle.line.specs.Pieces.{Passing, passOn, passing}
 use Rattle.line.proofs.ReaderLaws.{well, feed-refused, end-refused}
 use Rattle.line.proofs.StaysGood.{Good, started-stays, good-line, good-feed, reader-of-good}
@@ -122,12 +122,12 @@ piece-tells line (byte ∷ piece) started =
     go (event outcome size) e start next later l = e
 
 pub demand-1-feeding : FeedingRefuses
-unfolding feedReader
+unfolding feedReaderAt
 demand-1-feeding reader piece good =
     rw good (heard onTheLine (feedOf (lineOf reader) piece .told) (feedOf (lineOf reader) piece .at) (piece-tells (lineOf reader) piece (well reader good .started)))
 
 pub demand-1-end : TheEndRefuses
-unfolding endReader
+unfolding endReaderAt
 demand-1-end reader well = rw well (heard (11 ∷ []) (toldByEnd (lineOf reader .held)) (reader .start) (go (lineOf reader .held)))
   where
     go : (held : List ℕ) → Tells (11 ∷ []) (toldByEnd held)
@@ -158,7 +158,7 @@ held-size line good =
     omega (arith, good .fits, length-append (line .held) (replicate (places - length (line .held)) 0), length-replicate {A = ℕ} (places - length (line .held)) 0)
 
 passes : (room : ℕ) (reader : Reader) (piece : List ℕ) → length (reader .held) ≡ places → wellFormed reader ≡ true → Passes (passing room reader piece)
-unfolding passing feedReader
+unfolding passing feedReaderAt
 passes zero reader piece size well = (refl, tt)
 passes (suc room) reader piece size well =
     let feeding = feedOf (lineOf reader) piece in

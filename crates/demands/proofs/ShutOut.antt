@@ -21,7 +21,7 @@ use Rattle.line.specs.declared.Reader.{Reader}
 use Rattle.line.specs.declared.Fed.{Fed}
 use Rattle.line.specs.declared.Heard.{Heard}
 use Rattle.line.specs.declared.Heard.the-variants.{Nothing, Event, Refused}
-use Rattle.line.specs.Line.{lineWith, readerOf, freshReader, wellFormed, feedReader}
+use Rattle.line.specs.Line.{lineWith, readerOf, freshReader, wellFormedAt, feedReader, feedReaderAt}
 use Rattle.line.specs.Cuts.{heardThen, feeding, Served, AllUsedUp}
 use Rattle.line.specs.SentLine.{Sent, bytesSent, eventsSent}
 use Rattle.demands.specs.Demand2.{WritesByTheTables, ReadsByTheTables}
@@ -50,7 +50,7 @@ abbrev heard-it : Fed
 heard-it = record { reader = readerOf (lineWith [] 10 0 AsPrinted); taken = 10; heard = Event (answer.Good early) 0 10 }
 
 heard-so : feedReader freshReader its-bytes ≡ heard-it
-unfolding unless isDecimal isCapital codeValue timeInRange timeAloneAllowed timeAloneRefusal placesOf layoutOf carried bodyRefusal readIn feedReader wellFormed
+unfolding unless isDecimal isCapital codeValue timeInRange timeAloneAllowed timeAloneRefusal placesOf layoutOf carried bodyRefusal readIn feedReaderAt wellFormedAt
 heard-so = refl
 
 -- the demand, of that telegram alone in one piece, for any reader that takes it whole
@@ -137,7 +137,7 @@ abbrev in-two : List Served
 in-two = record { piece = 2 ∷ []; times = 1 } ∷ record { piece = behind-stx; times = 1 } ∷ []
 
 pub first-piece-line-is-shut-out : HandsBackThatList firstPieceLine → ⊥
-unfolding feedReader wellFormed
+unfolding feedReaderAt wellFormedAt
 first-piece-line-is-shut-out demand =
     let hears : [] ≡ eventsSent AsPrinted 0 sent = demand AsPrinted sent [] (is-good, tt) (refl, refl) in-two line-so (refl, (refl, tt)) .0 in
     let told : _≡_ {A = ℕ} 24 1 = ap hourOf (hears ∙ events-so) in

@@ -18,7 +18,7 @@ use Rattle.ascii.specs.Control.{stx, etx}
 use Rattle.trailer.specs.declared.Order.{Order}
 use Rattle.line.specs.declared.Reader.{Reader}
 use Rattle.line.specs.declared.Heard.the-variants.{Nothing, Event}
-use Rattle.line.specs.Line.{places, longest, judgement, Line, lineWith, readerWith, isPlain, event, Feeding, feedOf, startOf, readerOf, lineOf, wellFormed, answerFor, fedFor, feedReader}
+use Rattle.line.specs.Line.{places, longest, judgement, Line, lineWith, readerWith, isPlain, event, Feeding, feedOf, startOf, readerOf, lineOf, wellFormed, answerFor, fedFor, feedReader, feedReaderAt}
 use Rattle.line.specs.Runs.{roomyRun}
 use Rattle.line.proofs.Forms.{taken-length, start-stays, padding}
 use Rattle.line.proofs.RunLaws.{Within, run-within, run-ends}
@@ -90,7 +90,7 @@ module _ (reader : Reader) (piece : List ℕ) (size : length (reader .held) ≡ 
       ∙ sym (kept .start)
 
   fed-by-run : feedReader reader piece ≡ fedFor (later added (feedOf grown (drop added piece)))
-  unfolding feedReader
+  unfolding feedReaderAt
   fed-by-run = rw good (ap fedFor run)
 
   -- the piece ends: the bytes are held

@@ -10,7 +10,7 @@ use Rattle.line.specs.declared.Heard.the-variants.{Nothing, Event, Refus
 use Rattle.line.specs.declared.Fed.{Fed}
 use Rattle.line.specs.declared.Ended.{Ended}
 use Rattle.line.specs.declared.Reader.{Reader}
-use Rattle.line.specs.Line.{Line, Told, nothing, event, Feeding, stopOr, feedOf, toldBy, step, startOf, ended, toldByEnd, readerOf, lineOf, heardFor, fedFor, wellFormed, feedReader, endReader}
+use Rattle.line.specs.Line.{Line, Told, nothing, event, Feeding, stopOr, feedOf, toldBy, step, startOf, ended, toldByEnd, readerOf, lineOf, heardFor, fedFor, wellFormed, wellFormedAt, feedReader, feedReaderAt, endReader, endReaderAt}
 use Rattle.line.specs.Pieces.{Passing, passOn, passing}
 use Rattle.line.specs.Sentences.{AFreshOneIsAsPrintedIfNotNamed, EveryOrderIsWellFormed, TheOrderStays}
 
@@ -18,7 +18,7 @@ pub a-fresh-one-is-as-printed : AFreshOneIsAsPrintedIfNotNamed
 a-fresh-one-is-as-printed = refl
 
 pub every-order-is-well-formed : EveryOrderIsWellFormed
-unfolding wellFormed
+unfolding wellFormedAt
 every-order-is-well-formed reader order = refl
 
 -- no byte changes it
@@ -32,7 +32,7 @@ line-stays line (byte ∷ piece) =
     stays-by (toldBy (line .order) (line .held) byte) (startOf line) (step line byte) (feedOf (step line byte) piece) (line-stays (step line byte) piece)
 
 feed-stays : (reader : Reader) (piece : List ℕ) → feedReader reader piece .reader .order ≡ reader .order
-unfolding feedReader
+unfolding feedReaderAt
 feed-stays reader piece = go (wellFormed reader)
   where
     go : (well : Bool) → cond well (fedFor (feedOf (lineOf reader) piece)) (record { reader = reader; taken = 0; heard = Refused 15 }) .reader .order ≡ reader .order
@@ -55,7 +55,7 @@ passing-stays (suc more) reader piece =
     passes-by (fed .heard) fed (passing more (fed .reader) rest) (reader .order) here (passing-stays more (fed .reader) rest ∙ here)
 
 end-stays : (reader : Reader) → endReader reader .reader .order ≡ reader .order
-unfolding endReader
+unfolding endReaderAt
 end-stays reader = go (wellFormed reader) (record { reader = readerOf (ended (lineOf reader)); heard = heardFor (toldByEnd (lineOf reader .held)) (reader .start) }) refl
   where
     go : (well : Bool) (told : Ended) → told .reader .order ≡ reader .order

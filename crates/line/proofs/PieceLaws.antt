@@ -15,7 +15,7 @@ use Rattle.line.specs.declared.Heard.{Heard}
 use Rattle.line.specs.declared.Heard.the-variants.{Nothing, Event, Refused}
 use Rattle.line.specs.declared.pieces.Slot.{Slot}
 use Rattle.line.specs.declared.pieces.Passed.{Passed}
-use Rattle.line.specs.Line.{wellFormed, fedFor, feedOf, lineOf, feedReader}
+use Rattle.line.specs.Line.{wellFormed, fedFor, feedOf, lineOf, feedReader, feedReaderAt}
 use Rattle.line.specs.Pieces.{room, Passing, passOn, passing, slotOf, passedFor}
 use Rattle.line.proofs.Wraps.{taken-fits}
 
@@ -26,7 +26,7 @@ taken-by reader piece true = taken-fits (lineOf reader) piece
 taken-by reader piece false = omega arith
 
 pub feed-fits : (reader : Reader) (piece : List ℕ) → feedReader reader piece .taken ≤ length piece
-unfolding feedReader
+unfolding feedReaderAt
 feed-fits reader piece = taken-by reader piece (wellFormed reader)
 
 -- later events behind those that stand in the first slots

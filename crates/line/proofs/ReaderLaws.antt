@@ -13,7 +13,7 @@ use Rattle.refusals.proofs.Laws.{both}
 use Rattle.record.specs.declared.RecordAnswer.the-variants as answer
 use Rattle.line.specs.declared.Reader.{Reader}
 use Rattle.line.specs.declared.Heard.the-variants.{Nothing, Event, Refused}
-use Rattle.line.specs.Line.{places, lineWith, readerWith, event, toldByEnd, startOf, readerOf, lineOf, isStarted, allZero, wellFormed, feedReader, endReader}
+use Rattle.line.specs.Line.{places, lineWith, readerWith, event, toldByEnd, startOf, readerOf, lineOf, isStarted, allZero, wellFormed, wellFormedAt, feedReader, feedReaderAt, endReader, endReaderAt}
 use Rattle.line.proofs.Forms.{taken-length, padding}
 
 pub record Well (reader : Reader) : Type 0 where
@@ -23,7 +23,7 @@ pub record Well (reader : Reader) : Type 0 where
   pub start : reader .start ≡ startOf (lineOf reader)
 
 pub well : (reader : Reader) → wellFormed reader ≡ true → Well reader
-unfolding wellFormed
+unfolding wellFormedAt
 well reader e =
     let len-rest = both (leb (reader .len) places) (isStarted (take (reader .len) (reader .held)) && (allZero (drop (reader .len) (reader .held)) && eqb (reader .start) (startOf (lineOf reader)))) e in
     let started-rest = both (isStarted (take (reader .len) (reader .held))) (allZero (drop (reader .len) (reader .held)) && eqb (reader .start) (startOf (lineOf reader))) (len-rest .1) in
@@ -42,17 +42,17 @@ told-by-end (first ∷ held) some = refl
 
 module _ (reader : Reader) where
   pub end-refused : wellFormed reader ≡ false → endReader reader ≡ record { reader = reader; heard = Refused 15 }
-  unfolding endReader
+  unfolding endReaderAt
   end-refused e = rw e
 
   pub end-outside : wellFormed reader ≡ true → reader .len ≡ 0
       → endReader reader ≡ record { reader = readerOf (lineWith [] (reader .fed) (reader .stray) (reader .order)); heard = Nothing }
-  unfolding endReader
+  unfolding endReaderAt
   end-outside e none = rw (e, none)
 
   pub end-inside : wellFormed reader ≡ true → length (reader .held) ≡ places → 0 < reader .len
       → endReader reader ≡ record { reader = readerOf (lineWith [] (reader .fed) (reader .stray) (reader .order)); heard = Event (answer.Refused 11) (reader .start) (reader .len) }
-  unfolding endReader
+  unfolding endReaderAt
   end-inside e size some =
       let len = taken-length (reader .held) (reader .len) size in
       let fits = well reader e .fits in
@@ -61,7 +61,7 @@ module _ (reader : Reader) where
       rw (e, told, same)
 
   pub feed-refused : (piece : List ℕ) → wellFormed reader ≡ false → feedReader reader piece ≡ record { reader = reader; taken = 0; heard = Refused 15 }
-  unfolding feedReader
+  unfolding feedReaderAt
   feed-refused piece e = rw e
 
 -- a well-formed reader is the reader of its line

@@ -7,7 +7,7 @@ use native.Mathlib.Omega.{arith}
 use lib.ListN.{length, take}
 use Rattle.line.specs.declared.Heard.{Heard}
 use Rattle.line.specs.declared.Heard.the-variants.{Nothing}
-use Rattle.line.specs.Line.{Line, Told, nothing, event, Feeding, stopOr, feedOf, toldBy, step, startOf, readerOf, lineOf, freshLine, heardFor, wellFormed, feedReader, endReader}
+use Rattle.line.specs.Line.{Line, Told, nothing, event, Feeding, stopOr, feedOf, toldBy, step, startOf, readerOf, lineOf, freshLine, heardFor, wellFormed, feedReaderAt, endReaderAt}
 use Rattle.line.specs.Cuts.{tells, eventsOf, heardThen}
 use Rattle.line.specs.Pieces.{room, passing}
 use Rattle.line.specs.Sentences.{AFreshOneHoldsNone, AGoodStateStaysGood, OneByteGivesAtMostOneEvent, ACallStopsAfterTheFirstEvent, AnEmptyPieceGivesNothing, TheEndLeavesItOutside}
@@ -62,17 +62,17 @@ feed-stops line [] = (refl, refl, λ silent. refl)
 feed-stops line (byte ∷ piece) = stops-by line byte piece (toldBy (line .order) (line .held) byte) (feedOf (step line byte) piece) refl (feed-stops (step line byte) piece)
 
 pub a-call-stops-after-the-first-event : ACallStopsAfterTheFirstEvent
-unfolding feedReader
+unfolding feedReaderAt
 a-call-stops-after-the-first-event reader piece declared well =
     let stops = feed-stops (lineOf reader) piece in
     rw well
     (record { heard = stops .0; none-before = stops .1; or-all = stops .2; reader = ap readerOf (taken-line (lineOf reader) piece) })
 
 pub an-empty-piece-gives-nothing : AnEmptyPieceGivesNothing
-unfolding feedReader
+unfolding feedReaderAt
 an-empty-piece-gives-nothing reader declared well =
     rw well (λ i. record { reader = reader-back reader well (declared .0) (declared .1) (declared .2) i; taken = 0; heard = Nothing })
 
 pub the-end-leaves-it-outside : TheEndLeavesItOutside
-unfolding endReader
+unfolding endReaderAt
 the-end-leaves-it-outside reader declared well = rw well (refl, omega (arith, declared .1), omega (arith, declared .2), omega (arith, declared .1))

@@ -9,7 +9,7 @@ use lib.ListN.{length}
 use Rattle.refusals.proofs.Laws.{both}
 use Rattle.ascii.specs.Control.{stx, etx}
 use Rattle.line.specs.declared.Reader.{Reader}
-use Rattle.line.specs.Line.{places, Line, Told, nothing, event, Feeding, stopOr, feedOf, heldAfter, toldBy, step, startOf, ended, toldByEnd, readerOf, lineOf, isPlain, allPlain, isStarted, wellFormed, heardFor, fedFor, feedReader, endReader}
+use Rattle.line.specs.Line.{places, Line, Told, nothing, event, Feeding, stopOr, feedOf, heldAfter, toldBy, step, startOf, ended, toldByEnd, readerOf, lineOf, isPlain, allPlain, isStarted, wellFormed, heardFor, fedFor, feedReader, feedReaderAt, endReader, endReaderAt}
 use Rattle.line.proofs.Forms.{taken-length}
 use Rattle.line.proofs.ReaderLaws.{well}
 use Rattle.line.proofs.Inside.{reader-wraps}
@@ -64,7 +64,7 @@ pub feed-good : (line : Line) → Good line → (piece : List ℕ) → feedReade
 feed-good line good piece = feed-reader (line .order) (line .held) (line .fed) (line .stray) (good .fits) (good .started) piece
 
 pub end-good : (line : Line) → Good line → endReader (readerOf line) ≡ record { reader = readerOf (ended line); heard = heardFor (toldByEnd (line .held)) (startOf line) }
-unfolding endReader
+unfolding endReaderAt
 end-good line good =
     rw (reader-of-good line good)
     (λ i. record {
@@ -78,9 +78,9 @@ module _ (reader : Reader) (size : length (reader .held) ≡ places) (e : wellFo
       record { fits = omega (arith, taken-length (reader .held) (reader .len) size); started = well reader e .started }
 
   pub feed-stays-good : (piece : List ℕ) → wellFormed (feedReader reader piece .reader) ≡ true
-  unfolding feedReader
+  unfolding feedReaderAt
   feed-stays-good piece = rw e (reader-of-good (feedOf (lineOf reader) piece .line) (good-feed (lineOf reader) piece good-line))
 
   pub end-stays-good : wellFormed (endReader reader .reader) ≡ true
-  unfolding endReader
+  unfolding endReaderAt
   end-stays-good = rw e (reader-well (reader .order) [] (reader .fed) (reader .stray) (omega arith) refl)

@@ -11,7 +11,7 @@ use borrow.Author.Tests.{eq-eqb, le-leb, leb-false}
 use Rattle.ascii.specs.Control.{stx, etx}
 use Rattle.trailer.specs.declared.Order.{Order}
 use Rattle.line.specs.declared.Heard.the-variants.{Nothing, Event}
-use Rattle.line.specs.Line.{places, lineWith, answerFor, Line, Told, nothing, event, Feeding, stopOr, feedOf, heldAfter, toldBy, strayBy, step, startOf, readerOf, lineOf, isStarted, allZero, wellFormed, fedFor, feedReader}
+use Rattle.line.specs.Line.{places, lineWith, answerFor, Line, Told, nothing, event, Feeding, stopOr, feedOf, heldAfter, toldBy, strayBy, step, startOf, readerOf, lineOf, isStarted, allZero, wellFormed, wellFormedAt, fedFor, feedReader, feedReaderAt}
 use Rattle.line.proofs.Inside.{reader-wraps}
 
 -- no byte makes a reader hold more than there are places
@@ -72,12 +72,12 @@ module _ (order : Order) (held : List ℕ) (fed stray : ℕ) (fits : length held
       wraps ∙ ap (λ bytes. (fed % 2 ^ 32 + (2 ^ 32 - length bytes)) % 2 ^ 32) (sym held-back)
 
   pub reader-well : wellFormed (readerOf (lineWith held fed stray order)) ≡ true
-  unfolding wellFormed
+  unfolding wellFormedAt
   reader-well =
       all-hold (le-leb (length held) places fits) (ap isStarted held-back ∙ started) (ap allZero rest-back ∙ zeros-are (places - length held)) (eq-eqb _ _ start-back)
 
   pub feed-reader : (piece : List ℕ) → feedReader (readerOf (lineWith held fed stray order)) piece ≡ fedFor (feedOf (lineWith held fed stray order) piece)
-  unfolding feedReader
+  unfolding feedReaderAt
   feed-reader piece =
       rw reader-well
       ((λ i. fedFor (feedOf (lineWith (held-back i) (fed % 2 ^ 32) (stray % 2 ^ 32) order) piece))

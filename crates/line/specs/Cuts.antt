@@ -8,20 +8,27 @@ use Rattle.line.specs.declared.Reader.{Reader}
 use Rattle.line.specs.declared.Fed.{Fed}
 use Rattle.line.specs.declared.Heard.{Heard}
 use Rattle.line.specs.declared.Heard.the-variants.{Nothing, Event, Refused}
-use Rattle.line.specs.Line.{Line, Told, nothing, event, toldBy, step, startOf, answerFor, feedReader}
+use Rattle.line.specs.Line.{places, Line, Told, nothing, event, toldByAt, stepAt, startOf, answerFor, feedReader}
 
 -- what a line tells byte by byte, and what it then holds
 abbrev pub tells : Told → ℕ → List Heard → List Heard
 tells nothing start later = later
 tells (event outcome size) start later = Event (answerFor outcome) start size ∷ later
 
+abbrev pub eventsAt : ℕ → Line → List ℕ → List Heard
+eventsAt bound line [] = []
+eventsAt bound line (byte ∷ bytes) =
+    tells (toldByAt bound (line .order) (line .held) byte) (startOf line) (eventsAt bound (stepAt bound line byte) bytes)
+
+abbrev pub lineAfterAt : ℕ → Line → List ℕ → Line
+lineAfterAt bound line [] = line
+lineAfterAt bound line (byte ∷ bytes) = lineAfterAt bound (stepAt bound line byte) bytes
+
 abbrev pub eventsOf : Line → List ℕ → List Heard
-eventsOf line [] = []
-eventsOf line (byte ∷ bytes) = tells (toldBy (line .order) (line .held) byte) (startOf line) (eventsOf (step line byte) bytes)
+eventsOf = eventsAt places
 
 abbrev pub lineAfter : Line → List ℕ → Line
-lineAfter line [] = line
-lineAfter line (byte ∷ bytes) = lineAfter (step line byte) bytes
+lineAfter = lineAfterAt places
 
 -- what calls on one piece leave: "the caller passes on the rest of the piece that it hasn't taken"
 pub record Calls : Type 0 where

@@ -51,29 +51,38 @@ abbrev pub judgement : Order → List ℕ → Outcome Record
 judgement order held = readIn order true (held ++ etx ∷ [])
 
 -- "outside a telegram STX begins one; any other byte is stray and counted"; "inside, ETX ends it .. STX gives 9 for
--- the bytes held and begins a new telegram with itself. Any other byte is held, but if 24 are already held it gives 10, belongs to
--- the refused telegram (25 bytes), and the reader is outside"
-abbrev pub heldAfter : List ℕ → ℕ → List ℕ
-heldAfter [] byte = cond (eqb byte stx) (stx ∷ []) []
-heldAfter (first ∷ held) byte =
+-- the bytes held and begins a new telegram with itself. Any other byte is held, but if" as many as the bound "are already held it gives
+-- 10, belongs to the refused telegram" (one byte more), "and the reader is outside"
+abbrev pub heldAfterAt : ℕ → List ℕ → ℕ → List ℕ
+heldAfterAt bound [] byte = cond (eqb byte stx) (stx ∷ []) []
+heldAfterAt bound (first ∷ held) byte =
     cond (eqb byte etx) []
     (cond (eqb byte stx) (stx ∷ [])
-    (cond (leb places (length (first ∷ held))) [] ((first ∷ held) ++ byte ∷ [])))
+    (cond (leb bound (length (first ∷ held))) [] ((first ∷ held) ++ byte ∷ [])))
 
-abbrev pub toldBy : Order → List ℕ → ℕ → Told
-toldBy order [] byte = nothing
-toldBy order (first ∷ held) byte =
+abbrev pub toldByAt : ℕ → Order → List ℕ → ℕ → Told
+toldByAt bound order [] byte = nothing
+toldByAt bound order (first ∷ held) byte =
     cond (eqb byte etx) (event (judgement order (first ∷ held)) (length (first ∷ held) + 1))
     (cond (eqb byte stx) (event (refused 9) (length (first ∷ held)))
-    (cond (leb places (length (first ∷ held))) (event (refused 10) longest) nothing))
+    (cond (leb bound (length (first ∷ held))) (event (refused 10) (bound + 1)) nothing))
+
+abbrev pub heldAfter : List ℕ → ℕ → List ℕ
+heldAfter = heldAfterAt places
+
+abbrev pub toldBy : Order → List ℕ → ℕ → Told
+toldBy = toldByAt places
 
 abbrev pub strayBy : List ℕ → ℕ → ℕ
 strayBy [] byte = cond (eqb byte stx) 0 1
 strayBy (first ∷ held) byte = 0
 
+abbrev pub stepAt : ℕ → Line → ℕ → Line
+stepAt bound line byte =
+    lineWith (heldAfterAt bound (line .held) byte) (line .fed + 1) (line .stray + strayBy (line .held) byte) (line .order)
+
 abbrev pub step : Line → ℕ → Line
-step line byte =
-    lineWith (heldAfter (line .held) byte) (line .fed + 1) (line .stray + strayBy (line .held) byte) (line .order)
+step = stepAt places
 
 -- "the start position is fed less held, with the wrap"
 abbrev pub startOf : Line → ℕ
@@ -91,9 +100,13 @@ stopOr nothing start next later =
     record { line = later .line; taken = later .taken + 1; told = later .told; at = later .at }
 stopOr (event outcome size) start next later = record { line = next; taken = 1; told = event outcome size; at = start }
 
+abbrev pub feedAt : ℕ → Line → List ℕ → Feeding
+feedAt bound line [] = record { line = line; taken = 0; told = nothing; at = 0 }
+feedAt bound line (byte ∷ piece) =
+    stopOr (toldByAt bound (line .order) (line .held) byte) (startOf line) (stepAt bound line byte) (feedAt bound (stepAt bound line byte) piece)
+
 abbrev pub feedOf : Line → List ℕ → Feeding
-feedOf line [] = record { line = line; taken = 0; told = nothing; at = 0 }
-feedOf line (byte ∷ piece) = stopOr (toldBy (line .order) (line .held) byte) (startOf line) (step line byte) (feedOf (step line byte) piece)
+feedOf = feedAt places
 
 -- "the end of the line is its own call: 11 for the bytes held if any, else nothing; the state after it is outside, with fed and
 -- stray kept"
@@ -105,10 +118,13 @@ toldByEnd [] = nothing
 toldByEnd (first ∷ held) = event (refused 11) (length (first ∷ held))
 
 -- a reader for what it means; its counts "wrap at 4,294,967,296"
-abbrev pub readerOf : Line → Reader
-readerOf line =
-    readerWith (line .held ++ replicate (places - length (line .held)) 0) (length (line .held)) (line .fed % 2 ^ 32) (line .stray % 2 ^ 32) (startOf line)
+abbrev pub readerAt : ℕ → Line → Reader
+readerAt bound line =
+    readerWith (line .held ++ replicate (bound - length (line .held)) 0) (length (line .held)) (line .fed % 2 ^ 32) (line .stray % 2 ^ 32) (startOf line)
     (line .order)
+
+abbrev pub readerOf : Line → Reader
+readerOf = readerAt places
 
 abbrev pub lineOf : Reader → Line
 lineOf reader = lineWith (take (reader .len) (reader .held)) (reader .fed) (reader .stray) (reader .order)
@@ -140,13 +156,13 @@ abbrev pub allZero : List ℕ → Bool
 allZero [] = true
 allZero (byte ∷ bytes) = eqb byte 0 && allZero bytes
 
-abbrev pub wellFormedAt : ℕ → Reader → Bool
+unfoldable pub wellFormedAt : ℕ → Reader → Bool
 wellFormedAt bound reader =
     leb (reader .len) bound
     && (isStarted (take (reader .len) (reader .held))
     && (allZero (drop (reader .len) (reader .held)) && eqb (reader .start) (startOf (lineOf reader))))
 
-unfoldable pub wellFormed : Reader → Bool
+abbrev pub wellFormed : Reader → Bool
 wellFormed = wellFormedAt places
 
 -- what a reader's declaration says already: an array of so many places, and counts of 32 bits
@@ -162,16 +178,26 @@ abbrev pub heardFor : Told → ℕ → Heard
 heardFor nothing start = Nothing
 heardFor (event outcome size) start = Event (answerFor outcome) start size
 
+abbrev pub fedAt : ℕ → Feeding → Fed
+fedAt bound feeding =
+    record { reader = readerAt bound (feeding .line); taken = feeding .taken; heard = heardFor (feeding .told) (feeding .at) }
+
 abbrev pub fedFor : Feeding → Fed
-fedFor feeding = record { reader = readerOf (feeding .line); taken = feeding .taken; heard = heardFor (feeding .told) (feeding .at) }
+fedFor = fedAt places
 
 -- "a state refused with 15 takes no byte, gives no event and nothing else"
-unfoldable pub feedReader : Reader → List ℕ → Fed
-feedReader reader piece =
-    cond (wellFormed reader) (fedFor (feedOf (lineOf reader) piece)) (record { reader = reader; taken = 0; heard = Refused 15 })
+unfoldable pub feedReaderAt : ℕ → Reader → List ℕ → Fed
+feedReaderAt bound reader piece =
+    cond (wellFormedAt bound reader) (fedAt bound (feedAt bound (lineOf reader) piece)) (record { reader = reader; taken = 0; heard = Refused 15 })
 
-unfoldable pub endReader : Reader → Ended
-endReader reader =
-    cond (wellFormed reader)
-    (record { reader = readerOf (ended (lineOf reader)); heard = heardFor (toldByEnd (lineOf reader .held)) (reader .start) })
+unfoldable pub endReaderAt : ℕ → Reader → Ended
+endReaderAt bound reader =
+    cond (wellFormedAt bound reader)
+    (record { reader = readerAt bound (ended (lineOf reader)); heard = heardFor (toldByEnd (lineOf reader .held)) (reader .start) })
     (record { reader = reader; heard = Refused 15 })
+
+abbrev pub feedReader : Reader → List ℕ → Fed
+feedReader = feedReaderAt places
+
+abbrev pub endReader : Reader → Ended
+endReader = endReaderAt places

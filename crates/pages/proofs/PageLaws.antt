@@ -19,7 +19,7 @@ use Rattle.line.specs.declared.Reader.{Reader}
 use Rattle.line.specs.declared.Fed.{Fed}
 use Rattle.line.specs.declared.Heard.{Heard}
 use Rattle.line.specs.declared.Heard.the-variants.{Nothing, Refused}
-use Rattle.line.specs.Line.{wellFormed, feedReader, feedOf, lineOf, fedFor, toldBy, startOf, step}
+use Rattle.line.specs.Line.{wellFormed, feedReader, feedReaderAt, feedOf, lineOf, fedFor, toldBy, startOf, step}
 use Rattle.line.proofs.PieceLaws.{feed-fits}
 use Rattle.line.proofs.CutLaws.{some-by}
 use Rattle.pages.specs.Pages.{rowFor, Underway, behindCall, ifAny, nextRow, rowsIn, pageFor, stopped, pageOf, listedFor}
@@ -67,7 +67,7 @@ took-by reader byte piece row false e = let z : _≡_ {A = ℕ} 0 1 = cc in absu
 
 pub took-some : (reader : Reader) (piece row : List ℕ) → 0 < length piece → rowFor (feedReader reader piece .heard) ≡ done row
     → 0 < feedReader reader piece .taken
-unfolding feedReader
+unfolding feedReaderAt
 took-some reader [] row some e = absurd (omega arith)
 took-some reader (byte ∷ piece) row some e = took-by reader byte piece row (wellFormed reader) e
 

@@ -2,28 +2,28 @@ use native.Mathlib.Omega.{arith}
 use mathlib.Core.Path.{_≡_, sym, _∙_}
 use lib.ListN.{length, take, length-map}
 use borrow.Author.Tests.{le-leb, lt-leb, not-true, not-false}
-use Rattle.line.specs.Line.{places, wellFormed}
+use Rattle.line.specs.Line.{places, wellFormedAt}
 use Rattle.line.proofs.Forms.{start-is, taken-length}
 use borrow.Author.Needs.{needs}
 use Rattle.line.proofs.Reader.is_well_formed.Statement.{statement}
 use Rattle.line.proofs.Reader.is_well_formed.Tie as tie
 
 returns : tie.Need-returns
-unfolding wellFormed
+unfolding wellFormedAt
 returns c = simp (lt-leb _ _ (c .if1 .taken))
 
 is-started-requires : tie.Need-is-started-requires
 is-started-requires c κs = search needs
 
 returns-2 : tie.Need-returns-2
-unfolding wellFormed
+unfolding wellFormedAt
 returns-2 c = simp (le-leb (c .before .before .before .before .args .self .len) places (omega arith), sym (c .before .is-started .ensures) ∙ not-true _ (c .if2 .taken))
 
 is-zero-from-requires : tie.Need-is-zero-from-requires
 is-zero-from-requires c κs = search needs
 
 returns-3 : tie.Need-returns-3
-unfolding wellFormed
+unfolding wellFormedAt
 returns-3 c =
     simp (
       le-leb (c .before .before .before .before .before .before .args .self .len) places (omega arith),
@@ -38,7 +38,7 @@ wrapping-sub-u32-requires : tie.Need-wrapping-sub-u32-requires
 wrapping-sub-u32-requires c κs = search needs
 
 returns-4 : tie.Need-returns-4
-unfolding wellFormed
+unfolding wellFormedAt
 returns-4 c =
     let self = c .before .before .before .before .before .before .before .before .args .self in
     let size : length (self .held) ≡ places = sym (length-map (self .held) (λ x. x)) ∙ c .before .before .before .before .before .before .before .before .good .0 .1 .1 .0 .1 .0 .1 in
