@@ -21,7 +21,7 @@ use Rattle.line.specs.declared.Ended.{Ended}
 
 -- "the reader holds 0 to 24 bytes", and a telegram with one byte more is too long
 abbrev pub places : ℕ
-places = 24
+places = 38
 
 abbrev pub longest : ℕ
 longest = places + 1

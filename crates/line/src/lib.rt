@@ -25,7 +25,7 @@ ghost use Prim.Native.Nat.{_+_, _%_, _^_, _<_};
 ghost use lib.ListN.{length, take, drop};
 
 // How many bytes a reader holds at most; a telegram of one more is too long.
-pub const PLACES: usize = 24;
+pub const PLACES: usize = 38;
 
 const LONGEST: u32 = PLACES as u32 + 1;
 
