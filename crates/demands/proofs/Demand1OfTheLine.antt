@@ -20,7 +20,7 @@ use Rattle.telegram.specs.Reading.{bodyIn, carried, readIn}
 use Rattle.telegram.proofs.Frames.{frame-is-framed}
 use Rattle.line.specs.declared.Reader.{Reader}
 use Rattle.line.specs.declared.Fed.{Fed}
-use Rattle.line.specs.Line.{places, longest, Line, Told, nothing, event, Feeding, toldBy, toldByEnd, step, startOf, allPlain, isStarted, stopOr, feedOf, lineOf, readerOf, heardFor, fedFor, wellFormed, feedReaderAt, endReaderAt}
+use Rattle.line.specs.Line.{places, Line, Told, nothing, event, Feeding, toldBy, toldByEnd, step, startOf, allPlain, isStarted, stopOr, feedOf, lineOf, readerOf, heardFor, fedFor, wellFormed, feedReaderAt, endReaderAt}
 use Rattle.line.specs.Pieces.{Passing, passOn, passing}
 use Rattle.line.proofs.ReaderLaws.{well, feed-refused, end-refused}
 use Rattle.line.proofs.StaysGood.{Good, started-stays, good-line, good-feed, reader-of-good}
@@ -104,7 +104,7 @@ byte-tells order (first ∷ held) byte started = go (eqb byte etx) (eqb byte stx
     go : (etx stx full : Bool)
         → Tells onTheLine
         (cond etx (event (readIn order true ((first ∷ held) ++ 3 ∷ [])) (length (first ∷ held) + 1))
-        (cond stx (event (refused 9) (length (first ∷ held))) (cond full (event (refused 10) longest) nothing)))
+        (cond stx (event (refused 9) (length (first ∷ held))) (cond full (event (refused 10) (places + 1)) nothing)))
     go true stx full = judged-so (readIn order true ((first ∷ held) ++ 3 ∷ [])) whole
     go false true full = refl
     go false false true = refl
@@ -114,7 +114,7 @@ piece-tells : (line : Line) (piece : List ℕ) → isStarted (line .held) ≡ tr
 piece-tells line [] started = tt
 piece-tells line (byte ∷ piece) started =
     go (toldBy (line .order) (line .held) byte) (byte-tells (line .order) (line .held) byte started) (startOf line) (step line byte) (feedOf (step line byte) piece)
-    (piece-tells (step line byte) piece (started-stays (line .held) byte started))
+    (piece-tells (step line byte) piece (started-stays places (line .held) byte started))
   where
     go : (told : Told) → Tells onTheLine told → (start : ℕ) (next : Line) (later : Feeding) → Tells onTheLine (later .told)
         → Tells onTheLine (stopOr told start next later .told)

@@ -14,6 +14,7 @@ pub mod SecondSixtyHolds
 pub mod TheLogHolds
 pub mod UnnamedWritesHold
 pub mod The6038Holds
+pub mod LongerTelegramsHold
 pub mod ShutOut
 pub mod ShutOutOfReplies
 pub mod ShutOutOfTheLog

@@ -19,4 +19,5 @@ pub mod SecondSixty
 pub mod TheLog
 pub mod UnnamedWrites
 pub mod The6038
+pub mod LongerTelegrams
 pub mod PrintedTables

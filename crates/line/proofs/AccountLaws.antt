@@ -12,7 +12,7 @@ use Rattle.refusals.specs.Refusals.{refused}
 use Rattle.ascii.specs.Control.{stx, etx}
 use Rattle.trailer.specs.declared.Order.{Order}
 use Rattle.line.specs.declared.Heard.{Heard}
-use Rattle.line.specs.Line.{places, longest, judgement, Line, Told, nothing, event, heldAfter, toldBy, strayBy, step, startOf, freshLine, freshIn, toldByEnd, heardFor, feedReader, endReader}
+use Rattle.line.specs.Line.{places, judgement, Line, Told, nothing, event, heldAfter, toldBy, strayBy, step, startOf, freshLine, freshIn, toldByEnd, heardFor, feedReader, endReader}
 use Rattle.line.specs.Cuts.{tells, eventsOf, lineAfter, heardThen, feeding, bytesServed}
 use Rattle.line.specs.Account.{eventSize, lengthsOf, straysOf, sizesOf}
 use Rattle.line.specs.Sentences.{TheAccountHolds, TheAccountHoldsAfterTheEnd}
@@ -26,7 +26,7 @@ begins false = refl
 
 goes-on : (order : Order) (held : List ℕ) (byte : ℕ) (is-etx is-stx is-full : Bool) → leb places (length held) ≡ is-full → length held ≤ places
     → length held + 1
-    ≡ eventSize (cond is-etx (event (judgement order held) (length held + 1)) (cond is-stx (event (refused 9) (length held)) (cond is-full (event (refused 10) longest) nothing)))
+    ≡ eventSize (cond is-etx (event (judgement order held) (length held + 1)) (cond is-stx (event (refused 9) (length held)) (cond is-full (event (refused 10) (places + 1)) nothing)))
     + 0
     + length (cond is-etx [] (cond is-stx (stx ∷ []) (cond is-full [] (held ++ byte ∷ []))))
 goes-on order held byte true is-stx is-full e fits = omega arith

@@ -10,11 +10,11 @@ use lib.ListN.{length, drop, length-drop}
 use Rattle.trailer.specs.declared.Order.{Order}
 use Rattle.line.specs.declared.Reader.{Reader}
 use Rattle.line.specs.declared.Heard.{Heard}
-use Rattle.line.specs.Line.{Line, Told, nothing, event, Feeding, stopOr, feedOf, toldBy, step, startOf, readerOf, lineOf, heardFor, fedFor, freshLine, feedReader}
+use Rattle.line.specs.Line.{places, Line, Told, nothing, event, Feeding, stopOr, feedOf, toldBy, step, startOf, readerOf, lineOf, heardFor, fedFor, freshLine, feedReader}
 use Rattle.line.specs.Cuts.{tells, eventsOf, lineAfter, Calls, heardThen, calledFor, feeding, callsThen, callsOf, Served, bytesServed, heardOf, readerBehind, AllUsedUp, serve}
 use Rattle.line.specs.Sentences.{TakesSome, UsesUpAnyCut, TellsTheLine, FeedingTellsTheLine, SameByAnyCut, CutIndependence}
 use Rattle.line.proofs.ReaderLaws.{reader-back}
-use Rattle.line.proofs.StaysGood.{Good, good-step, good-feed, good-line, feed-good}
+use Rattle.line.proofs.StaysGood.{Good, good-after-at, good-feed, good-line, feed-good}
 
 -- a fresh reader
 pub good-fresh : (order : Order) → Good (freshLine order)
@@ -36,8 +36,7 @@ after-join line [] others = refl
 after-join line (byte ∷ piece) others = after-join (step line byte) piece others
 
 pub good-after : (line : Line) (piece : List ℕ) → Good line → Good (lineAfter line piece)
-good-after line [] good = good
-good-after line (byte ∷ piece) good = good-after (step line byte) piece (good-step line byte good)
+good-after = good-after-at places (omega arith)
 
 -- calls on a piece split what it tells into what was heard and what the rest tells
 pub record Splits (line : Line) (piece : List ℕ) (called : Calls) : Type 0 where

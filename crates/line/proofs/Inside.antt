@@ -18,7 +18,7 @@ use Rattle.ascii.specs.Control.{stx, etx}
 use Rattle.trailer.specs.declared.Order.{Order}
 use Rattle.line.specs.declared.Reader.{Reader}
 use Rattle.line.specs.declared.Heard.the-variants.{Nothing, Event}
-use Rattle.line.specs.Line.{places, longest, judgement, Line, lineWith, readerWith, isPlain, event, Feeding, feedOf, startOf, readerOf, lineOf, wellFormed, answerFor, fedFor, feedReader, feedReaderAt}
+use Rattle.line.specs.Line.{places, judgement, Line, lineWith, readerWith, isPlain, event, Feeding, feedOf, startOf, readerOf, lineOf, wellFormed, answerFor, fedFor, feedReader, feedReaderAt}
 use Rattle.line.specs.Runs.{roomyRun}
 use Rattle.line.proofs.Forms.{taken-length, start-stays, padding}
 use Rattle.line.proofs.RunLaws.{Within, run-within, run-ends}
@@ -42,7 +42,7 @@ module _ (order : Order) (fed stray : ℕ) (rest : List ℕ) where
   at-stx (first ∷ held) some = rw (add-zero stray)
 
   pub at-full : (byte : ℕ) (held : List ℕ) → 0 < length held → (byte ≡ etx → ⊥) → (byte ≡ stx → ⊥) → places ≤ length held
-      → feedOf (lineWith held fed stray order) (byte ∷ rest) ≡ stopped (lineWith held fed stray order) [] (refused 10) longest
+      → feedOf (lineWith held fed stray order) (byte ∷ rest) ≡ stopped (lineWith held fed stray order) [] (refused 10) (places + 1)
   at-full byte [] some no-etx no-stx full = absurd (omega arith)
   at-full byte (first ∷ held) some no-etx no-stx full =
       simp (ne-eqb byte etx no-etx, ne-eqb byte stx no-stx, le-leb places (length (first ∷ held)) full, add-zero)
@@ -177,7 +177,7 @@ module _ (reader : Reader) (piece : List ℕ) (size : length (reader .held) ≡ 
 
   pub told-full : added < length piece → (getD piece added 0 ≡ etx → ⊥) → (getD piece added 0 ≡ stx → ⊥)
       → feedOf grown (drop added piece)
-      ≡ stopped grown [] (refused 10) longest
+      ≡ stopped grown [] (refused 10) (places + 1)
   told-full more no-etx no-stx =
       ap (feedOf grown) (behind (getD piece added 0) more refl)
       ∙ at-full (reader .order) (reader .fed + added) (reader .stray) (drop (suc added) piece) (getD piece added 0) gathered gathered-some no-etx no-stx

@@ -16,4 +16,5 @@ pub mod HandsBack
 pub mod PositionLaws
 pub mod SentencesHold
 pub mod SkippingHolds
+pub mod LongerTelegramsHold
 pub mod OrderHolds

@@ -2,7 +2,7 @@
 use mathlib.Core.Path.{_≡_, refl, ap, sym, _∙_}
 use mathlib.Core.Bool.{Bool, true, false, cond, _&&_}
 use mathlib.Core.List.{List, [], _∷_, _++_}
-use Prim.Native.Nat.{ℕ, zero, suc, _+_, _-_, _%_, _^_, _≤_}
+use Prim.Native.Nat.{ℕ, zero, suc, _+_, _-_, _%_, _^_, _≤_, _<_}
 use native.Mathlib.Omega.{arith}
 use lib.Dec.{eqb, leb}
 use lib.ListN.{length, take, drop, replicate, length-append}
@@ -11,24 +11,25 @@ use borrow.Author.Tests.{eq-eqb, le-leb, leb-false}
 use Rattle.ascii.specs.Control.{stx, etx}
 use Rattle.trailer.specs.declared.Order.{Order}
 use Rattle.line.specs.declared.Heard.the-variants.{Nothing, Event}
-use Rattle.line.specs.Line.{places, lineWith, answerFor, Line, Told, nothing, event, Feeding, stopOr, feedOf, heldAfter, toldBy, strayBy, step, startOf, readerOf, lineOf, isStarted, allZero, wellFormed, wellFormedAt, fedFor, feedReader, feedReaderAt}
+use Rattle.line.specs.Line.{places, lineWith, answerFor, Line, Told, nothing, event, Feeding, stopOr, feedOf, heldAfterAt, heldAfter, toldBy, strayBy, step, startOf, readerOf, lineOf, isStarted, allZero, wellFormed, wellFormedAt, fedFor, feedReader, feedReaderAt}
 use Rattle.line.proofs.Inside.{reader-wraps}
 
--- no byte makes a reader hold more than there are places
-fits-by : (held : List ℕ) (byte : ℕ) (is-etx is-stx is-full : Bool) → leb places (length held) ≡ is-full
-    → length (cond is-etx [] (cond is-stx (stx ∷ []) (cond is-full [] (held ++ byte ∷ [])))) ≤ places
-fits-by held byte true is-stx is-full e = omega arith
-fits-by held byte false true is-full e = omega arith
-fits-by held byte false false true e = omega arith
-fits-by held byte false false false e = omega (arith, length-append held (byte ∷ []), leb-false places (length held) e)
+-- no byte makes a reader hold more than there are places, whatever the bound
+module _ (bound : ℕ) (some : 0 < bound) where
+  fits-by : (held : List ℕ) (byte : ℕ) (is-etx is-stx is-full : Bool) → leb bound (length held) ≡ is-full
+      → length (cond is-etx [] (cond is-stx (stx ∷ []) (cond is-full [] (held ++ byte ∷ [])))) ≤ bound
+  fits-by held byte true is-stx is-full e = omega arith
+  fits-by held byte false true is-full e = omega arith
+  fits-by held byte false false true e = omega arith
+  fits-by held byte false false false e = omega (arith, length-append held (byte ∷ []), leb-false bound (length held) e)
 
-begins-by : (is-stx : Bool) → length (cond {A = List ℕ} is-stx (stx ∷ []) []) ≤ places
-begins-by true = omega arith
-begins-by false = omega arith
+  begins-by : (is-stx : Bool) → length (cond {A = List ℕ} is-stx (stx ∷ []) []) ≤ bound
+  begins-by true = omega arith
+  begins-by false = omega arith
 
-pub held-fits : (held : List ℕ) (byte : ℕ) → length (heldAfter held byte) ≤ places
-held-fits [] byte = begins-by (eqb byte stx)
-held-fits (first ∷ held) byte = fits-by (first ∷ held) byte (eqb byte etx) (eqb byte stx) (leb places (length (first ∷ held))) refl
+  pub held-fits : (held : List ℕ) (byte : ℕ) → length (heldAfterAt bound held byte) ≤ bound
+  held-fits [] byte = begins-by (eqb byte stx)
+  held-fits (first ∷ held) byte = fits-by (first ∷ held) byte (eqb byte etx) (eqb byte stx) (leb bound (length (first ∷ held))) refl
 
 -- feeding says the same of two lines whose counts wrap alike
 abbrev pub Alike : Order → List ℕ → ℕ → ℕ → ℕ → ℕ → List ℕ → Type 0
@@ -47,8 +48,8 @@ alike order held fed fed' stray stray' (byte ∷ piece) fits f s =
     let f₁ : (fed + 1) % 2 ^ 32 ≡ (fed' + 1) % 2 ^ 32 = omega (arith, f) in
     let s₁ : (stray + strayBy held byte) % 2 ^ 32 ≡ (stray' + strayBy held byte) % 2 ^ 32 = omega (arith, s) in
     let start : (fed + (2 ^ 32 - length held)) % 2 ^ 32 ≡ (fed' + (2 ^ 32 - length held)) % 2 ^ 32 = omega (arith, f) in
-    let next = reader-wraps order (heldAfter held byte) (fed + 1) (fed' + 1) (stray + strayBy held byte) (stray' + strayBy held byte) (held-fits held byte) f₁ s₁ in
-    let on = alike order (heldAfter held byte) (fed + 1) (fed' + 1) (stray + strayBy held byte) (stray' + strayBy held byte) piece (held-fits held byte) f₁ s₁ in
+    let next = reader-wraps order (heldAfter held byte) (fed + 1) (fed' + 1) (stray + strayBy held byte) (stray' + strayBy held byte) (held-fits places (omega arith) held byte) f₁ s₁ in
+    let on = alike order (heldAfter held byte) (fed + 1) (fed' + 1) (stray + strayBy held byte) (stray' + strayBy held byte) piece (held-fits places (omega arith) held byte) f₁ s₁ in
     alike-by (toldBy order held byte) _ _ _ _ _ _ start next on
 
 -- a reader of a line that was started well is well formed

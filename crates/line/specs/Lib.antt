@@ -6,3 +6,4 @@ pub mod Account
 pub mod SentLine
 pub mod Sentences
 pub mod Skipping
+pub mod LongerTelegrams

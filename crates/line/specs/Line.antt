@@ -19,12 +19,9 @@ use Rattle.line.specs.declared.Heard.the-variants.{Nothing, Event, Refus
 use Rattle.line.specs.declared.Fed.{Fed}
 use Rattle.line.specs.declared.Ended.{Ended}
 
--- "the reader holds 0 to 24 bytes", and a telegram with one byte more is too long
+-- "the reader then holds 0 to 38 bytes" (document 02, g). What a reader is stands below over any bound, and is in use at this one
 abbrev pub places : ℕ
 places = 38
-
-abbrev pub longest : ℕ
-longest = places + 1
 
 -- what a reader's state means: the bytes held, two counts that know no end, and the order of the trailers on it. Lines and readers are
 -- made by `lineWith` and `readerWith` alone
@@ -139,8 +136,8 @@ freshIn order = readerWith (replicate places 0) 0 0 0 0 order
 abbrev pub freshReader : Reader
 freshReader = freshIn AsPrinted
 
--- "at most 24 held; if any, the first is STX and no other is STX or ETX; places beyond the held ones are zero; the start position is
--- fed less held, with the wrap"
+-- at most so many held; "if any, the first is STX and no other is STX or ETX; places beyond the held ones are zero; the start position
+-- is fed less held, with the wrap"
 abbrev pub isPlain : ℕ → Bool
 isPlain byte = not (eqb byte stx) && not (eqb byte etx)
 

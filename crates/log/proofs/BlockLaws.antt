@@ -13,28 +13,32 @@ use Rattle.refusals.proofs.Laws.{both}
 use Rattle.record.specs.declared.Record.{Record}
 use Rattle.layouts.specs.Layouts.{ownLayout}
 use Rattle.layouts.proofs.RowLaws.{row-length}
+use Rattle.trailer.specs.declared.Order.the-variants.{AsPrinted}
 use Rattle.telegram.specs.Reading.{readOf}
-use Rattle.telegram.specs.Writing.{telegramOf}
-use Rattle.telegram.proofs.BackAndForth.{accepted-is-written}
+use Rattle.telegram.specs.Writing.{telegramIn as written}
 use Rattle.telegram.proofs.WriteLaws.{length-body, length-framed}
+use Rattle.telegram.proofs.InOrder.{length-telegram, accepted}
 use Rattle.log.specs.Check.{checkOf, lowFirst}
 use Rattle.log.specs.Block.{slots, slotSize, countPlace, checkPlace, blockSize}
 use Rattle.log.specs.Block.{filled, slotOf, slotsOf, bodyOf, sealed, blockOf}
 use Rattle.log.specs.Good.{countIn, telegramIn, telegramsFrom, telegramsOf}
 use Rattle.log.specs.Good.{isDone, readsWell, allReadWell, same, isKept, isGood}
+use Rattle.log.specs.LongestTelegram.{NoneAcceptedIsLonger, ThatManyFitASlot}
 use Rattle.log.proofs.PartLaws.{behind-first}
 use Rattle.log.proofs.SameLaws.{same-true, same-refl, length-filled}
 
--- an accepted telegram fits a slot
+-- an accepted telegram has at most 30 bytes, and so it fits a slot
+pub none-accepted-is-longer : NoneAcceptedIsLonger
+none-accepted-is-longer order telegram rec e =
+    let size : length (written order true rec) ≡ length telegram = ap length (accepted order true telegram rec e .is-written) in
+    omega (arith, size, length-telegram order true rec, length-framed rec, length-body rec, row-length (ownLayout rec) .1)
+
 pub reads-short : (telegram : List ℕ) → readsWell telegram ≡ true → length telegram < slotSize
 unfolding readsWell
 reads-short telegram = go (readOf true telegram) refl
   where
     go : (o : Outcome Record) → readOf true telegram ≡ o → isDone o ≡ true → length telegram < slotSize
-    go (done rec) e reads =
-        let written = accepted-is-written true telegram rec e .is-written in
-        let size : length (telegramOf true rec) ≡ length telegram = ap length written in
-        omega (arith, size, length-framed rec, length-body rec, row-length (ownLayout rec) .1)
+    go (done rec) e reads = omega (arith, none-accepted-is-longer AsPrinted telegram rec e)
     go (refused n) e reads = let z : _≡_ {A = ℕ} 0 1 = cc in absurd (omega arith)
 
 -- telegrams that fit their slots
@@ -66,6 +70,9 @@ length-slots (telegram ∷ telegrams) short =
 slot-holds : (telegram : List ℕ) → telegramIn (slotOf telegram) ≡ telegram
 unfolding telegramIn slotOf filled
 slot-holds telegram = take-append-seam telegram (replicate (slotSize - suc (length telegram)) 0)
+
+pub that-many-fit-a-slot : ThatManyFitASlot
+that-many-fit-a-slot telegram short = (length-slot telegram (omega arith), slot-holds telegram)
 
 -- the slot of a number
 pub slot-at : (telegrams : List (List ℕ)) (rest : List ℕ) (at : ℕ) → AllShort telegrams → at < length telegrams

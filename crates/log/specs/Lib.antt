@@ -8,5 +8,6 @@ pub mod ReadBack
 pub mod Answers
 pub mod Tests
 pub mod AsPrinted
+pub mod LongestTelegram
 pub mod OfABlock
 pub mod OfTheLog

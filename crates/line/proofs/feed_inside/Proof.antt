@@ -6,7 +6,7 @@ use Prim.Native.Nat.{_+_, _<_, _%_, _^_}
 use lib.ListN.{length, length-map, take, getD}
 use Rattle.refusals.specs.Refusals.{refused}
 use Rattle.line.specs.declared.Heard.the-variants.{Nothing}
-use Rattle.line.specs.Line.{places, longest, judgement, readerWith, answerFor}
+use Rattle.line.specs.Line.{places, judgement, readerWith, answerFor}
 use Rattle.line.proofs.ReaderLaws.{well}
 use Rattle.line.proofs.Inside.{added, gathered, gathered-size, added-fits, inside-holds, stops-with, told-etx, told-stx, told-full, judged, answered}
 use borrow.Author.Needs.{needs}
@@ -155,7 +155,7 @@ returns-4 c =
     let some = start .pre .1 in
     let n = c .before .before .before .before .before .before .before .before .gather .ensures .0 in
     let more : added reader piece size good some < length piece = omega (arith, n, added-fits reader piece size good some .1) in
-    stops-with reader piece size good some [] (refused 10) longest (omega arith)
+    stops-with reader piece size good some [] (refused 10) (places + 1) (omega arith)
     (told-full reader piece size good some more (λ e. c .before .before .if2 .left (ap (λ k. getD piece k 0) n ∙ e)) (λ e. c .before .if3 .left (ap (λ k. getD piece k 0) n ∙ e)))
     _ _ _ _ _
     (c .outside2 .ensures)

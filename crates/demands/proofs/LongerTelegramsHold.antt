@@ -1,0 +1,103 @@
+-- Document 02, g, holds. Assumes nothing.
+use mathlib.Core.Path.{_≡_, refl, ap, ap₂, _∙_}
+use mathlib.Core.Bool.{Bool, true, false, cond}
+use mathlib.Core.List.{List, [], _∷_, _++_, append-nil}
+use Prim.Native.Nat.{ℕ, _+_, _-_, _≤_, _<_}
+use native.Mathlib.Omega.{arith}
+use lib.Dec.{eqb, leb}
+use lib.ListN.{length, drop, length-append, length-take, length-drop}
+use borrow.Author.Tests.{ne-eqb, leb-true}
+use Rattle.refusals.specs.Refusals.{Outcome, done, refused}
+use Rattle.ascii.specs.Control.{stx, etx}
+use Rattle.record.specs.declared.Record.{Record}
+use Rattle.layouts.specs.Layouts.{layoutOf}
+use Rattle.trailer.specs.declared.Order.{Order}
+use Rattle.trailer.proofs.TrailerLaws.{length-in-order}
+use Rattle.telegram.specs.Reading.{bodyOf, bodyIn, readIn}
+use Rattle.line.specs.Line.{places, Told, nothing, event, judgement, heldAfterAt, toldByAt, startOf, lineOf}
+use Rattle.line.specs.Cuts.{tells, eventsAt, lineAfterAt, eventsOf, lineAfter}
+use Rattle.line.proofs.StaysGood.{good-after-at}
+use Rattle.line.proofs.CutLaws.{events-join, after-join}
+use Rattle.line.proofs.LongerTelegramsHold.{up-to-38-bytes-are-held, ten-is-given-when-38-are-held, up-to-39-bytes-are-judged, the-rule-is-the-one-at-38}
+use Rattle.takeover.specs.TakingOver.{keptPlaces, stateOf}
+use Rattle.takeover.specs.Sentences.{readerFor, lineKept}
+use Rattle.takeover.proofs.SentencesHold.{kept-good, the-old-bound-is-24, refuses-what-the-old-rule-refused, a-refused-state-comes-back, more-held-is-15, taken-over-is-the-same, taken-over-is-well-formed, without-a-ten-nothing-differs, a-call-without-a-ten, the-end-is-the-same, without-a-ten-each-cut}
+use Rattle.pages.proofs.NumberLaws.{read-number}
+use Rattle.log.proofs.BlockLaws.{none-accepted-is-longer, that-many-fit-a-slot}
+use Rattle.demands.specs.LongerTelegrams.{LongerThan25Is1, AtTheFirstTenItHolds25, LongerTelegramsAreAsAskedFor}
+
+-- no layout has such a length
+longer-than-25 : LongerThan25Is1
+unfolding readIn layoutOf
+longer-than-25 order bytes long =
+    let n = length (bodyIn order true bytes) in
+    let size : n ≡ length bytes - 2 =
+    length-in-order order (bodyOf true bytes) ∙ omega (arith, length-take (length bytes - 2) (drop 1 bytes), length-drop 1 bytes) in
+    rw (
+      ne-eqb n 16 (λ e. absurd (omega arith)),
+      ne-eqb n 8 (λ e. absurd (omega arith)),
+      ne-eqb n 18 (λ e. absurd (omega arith)),
+      ne-eqb n 19 (λ e. absurd (omega arith)),
+      ne-eqb n 23 (λ e. absurd (omega arith)),
+      ne-eqb n 11 (λ e. absurd (omega arith)),
+    )
+
+-- a 10 comes of one byte too many and of nothing else: a judgement has another number
+abbrev numberTold : Told → ℕ
+numberTold nothing = 0
+numberTold (event (done rec) size) = 0
+numberTold (event (refused n) size) = n
+
+no-judgement : (order : Order) (bytes : List ℕ) (size other : ℕ) → event (readIn order true bytes) size ≡ event (refused 10) other → ⊥
+no-judgement order bytes size other ten = go (readIn order true bytes) refl (ap numberTold ten)
+  where
+    go : (o : Outcome Record) → readIn order true bytes ≡ o → numberTold (event o size) ≡ 10 → ⊥
+    go (done rec) is e = absurd (omega arith)
+    go (refused n) is e = absurd (omega (arith, read-number order true bytes n is))
+
+-- at a higher bound that byte is held
+one-more : (low high : ℕ) → low < high → (order : Order) (held : List ℕ) (byte size : ℕ) → length held ≤ low
+    → toldByAt low order held byte ≡ event (refused 10) size
+    → (length held ≡ low) × (toldByAt high order held byte ≡ nothing) × (heldAfterAt high held byte ≡ held ++ byte ∷ [])
+one-more low high within order [] byte size fits ten = let z : _≡_ {A = ℕ} 0 1 = cc in absurd (omega arith)
+one-more low high within order (first ∷ held) byte size fits ten =
+    by-tests (eqb byte etx) (eqb byte stx) (leb low (length all)) (leb high (length all)) refl refl ten
+  where
+    all : List ℕ
+    all = first ∷ held
+
+    told : ℕ → Bool → Bool → Bool → Told
+    told bound is-etx is-stx is-full =
+        cond is-etx (event (judgement order all) (length all + 1)) (cond is-stx (event (refused 9) (length all)) (cond is-full (event (refused 10) (bound + 1)) nothing))
+
+    by-tests : (is-etx is-stx is-full is-full' : Bool) → leb low (length all) ≡ is-full → leb high (length all) ≡ is-full'
+        → told low is-etx is-stx is-full ≡ event (refused 10) size
+        → (length all ≡ low) × (told high is-etx is-stx is-full' ≡ nothing)
+        × (cond is-etx [] (cond is-stx (stx ∷ []) (cond is-full' [] (all ++ byte ∷ []))) ≡ all ++ byte ∷ [])
+    by-tests true is-stx is-full is-full' l h ten = absurd (no-judgement order (all ++ etx ∷ []) (length all + 1) size ten)
+    by-tests false true is-full is-full' l h ten = let z : _≡_ {A = ℕ} 0 1 = cc in absurd (omega arith)
+    by-tests false false false is-full' l h ten = let z : _≡_ {A = ℕ} 0 1 = cc in absurd (omega arith)
+    by-tests false false true true l h ten = absurd (omega (arith, leb-true high (length all) h))
+    by-tests false false true false l h ten = (omega (arith, leb-true low (length all) l), refl, refl)
+
+at-the-first-ten : AtTheFirstTenItHolds25
+at-the-first-ten kept before byte size declared well none ten =
+    let old = lineAfterAt keptPlaces (lineKept kept) before in
+    let good = good-after-at keptPlaces (omega arith) (lineKept kept) before (kept-good (stateOf kept) (declared .0) well) in
+    let same = without-a-ten-nothing-differs kept before declared well none in
+    let more = one-more keptPlaces places (omega arith) (old .order) (old .held) byte size (good .fits) ten in
+    let new = lineOf (readerFor kept) in
+    let held : lineAfter new (before ++ byte ∷ []) .held ≡ old .held ++ byte ∷ [] =
+    ap (λ line. line .held) (after-join new before (byte ∷ []) ∙ ap (λ line. lineAfter line (byte ∷ [])) (same .1)) ∙ more .2 in
+    record {
+      told = events-join new before (byte ∷ [])
+          ∙ ap₂ (λ events line. events ++ eventsOf line (byte ∷ [])) (same .0) (same .1)
+          ∙ ap (λ told. eventsAt keptPlaces (lineKept kept) before ++ tells told (startOf old) []) (more .1)
+          ∙ append-nil (eventsAt keptPlaces (lineKept kept) before);
+      held = held;
+      size = ap length held ∙ omega (arith, length-append (old .held) (byte ∷ []), more .0);
+    }
+
+pub longer-telegrams : LongerTelegramsAreAsAskedFor
+longer-telegrams =
+    (up-to-39-bytes-are-judged, longer-than-25, up-to-38-bytes-are-held, the-rule-is-the-one-at-38, ten-is-given-when-38-are-held, none-accepted-is-longer, that-many-fit-a-slot, the-old-bound-is-24, taken-over-is-the-same, taken-over-is-well-formed, refuses-what-the-old-rule-refused, a-refused-state-comes-back, more-held-is-15, without-a-ten-nothing-differs, a-call-without-a-ten, the-end-is-the-same, without-a-ten-each-cut, at-the-first-ten)

@@ -1,0 +1,3 @@
+pub mod TakingOverLaws
+pub mod BoundLaws
+pub mod SentencesHold

@@ -1,0 +1,2 @@
+pub mod TakingOver
+pub mod Sentences
