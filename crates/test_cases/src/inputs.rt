@@ -10,6 +10,8 @@ use record::Reception;
 use record::Record;
 use record::Status;
 use record::TimeLayout;
+use takeover::KEPT_PLACES;
+use takeover::Kept;
 use telegram::write::Choice;
 use telegram::write::Setting;
 use trailer::Order;
@@ -166,23 +168,31 @@ pub(crate) fn choice(number: u8) -> Choice {
     }
 }
 
-fn held(bytes: &[u8]) -> [u8; PLACES] {
-    let mut held = [0u8; PLACES];
+// Fills all of a buffer with the first bytes.
+fn fill(buffer: &mut [u8], bytes: &[u8]) {
+    let length = buffer.len();
     let mut at: usize = 0;
-    while at < PLACES {
-        held[at] = byte(bytes, at);
+    while at < length {
+        buffer[at] = byte(bytes, at);
         at += 1;
     }
+}
+
+fn held(bytes: &[u8]) -> [u8; PLACES] {
+    let mut held = [0u8; PLACES];
+    fill(&mut held, bytes);
+    held
+}
+
+fn held_before(bytes: &[u8]) -> [u8; KEPT_PLACES] {
+    let mut held = [0u8; KEPT_PLACES];
+    fill(&mut held, bytes);
     held
 }
 
 pub(crate) fn digits(bytes: &[u8]) -> [u8; SLOTS] {
     let mut digits = [0u8; SLOTS];
-    let mut at: usize = 0;
-    while at < SLOTS {
-        digits[at] = byte(bytes, at);
-        at += 1;
-    }
+    fill(&mut digits, bytes);
     digits
 }
 
@@ -201,5 +211,17 @@ pub(crate) fn reader(bytes: &[u8]) -> Reader {
         stray: number_32(behind(bytes, PLACES + 5)),
         start: number_32(behind(bytes, PLACES + 9)),
         order: order(byte(bytes, PLACES + 13)),
+    }
+}
+
+// A kept state is handed in alike, with the places that it had.
+pub(crate) fn kept(bytes: &[u8]) -> Kept {
+    Kept {
+        held: held_before(bytes),
+        len: wide(byte(bytes, KEPT_PLACES)),
+        fed: number_32(behind(bytes, KEPT_PLACES + 1)),
+        stray: number_32(behind(bytes, KEPT_PLACES + 5)),
+        start: number_32(behind(bytes, KEPT_PLACES + 9)),
+        order: order(byte(bytes, KEPT_PLACES + 13)),
     }
 }

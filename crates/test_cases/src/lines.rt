@@ -45,3 +45,13 @@ pub(crate) fn ends(bytes: &[u8]) {
     outputs::print_heard(heard);
     outputs::print_reader(ended.reader);
 }
+
+// The refusal, the reader, and the kept state as it comes back.
+pub(crate) fn takes_over(bytes: &[u8]) {
+    let taken = takeover::take_over(inputs::kept(bytes));
+    let reader = taken.reader;
+    let kept = taken.kept;
+    outputs::print(taken.refusal as u64);
+    outputs::print_reader(reader);
+    outputs::print_kept(kept);
+}

@@ -37,6 +37,7 @@
 //   F        feeds a reader: its state, a piece
 //   V        uses a piece up: the reader's state, the piece
 //   E        ends a line: the reader's state
+//   o        takes over a state that was kept: the state
 //   H        writes the header of the listing: the buffer's length
 //   G        writes a row of the listing: its start, the buffer's length, an outcome
 //   X        writes the last row of the listing: the stray bytes, the buffer's length
@@ -98,6 +99,7 @@ fn run(letter: u8, bytes: &[u8]) {
         b'F' => lines::feeds(bytes),
         b'V' => lines::uses_up(bytes),
         b'E' => lines::ends(bytes),
+        b'o' => lines::takes_over(bytes),
         b'H' => rows::header(bytes),
         b'G' => rows::row(bytes),
         b'X' => rows::stray_line(bytes),

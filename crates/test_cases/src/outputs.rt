@@ -14,6 +14,7 @@ use record::Record;
 use record::RecordAnswer;
 use record::Status;
 use record::TimeLayout;
+use takeover::Kept;
 use trailer::Order;
 
 pub(crate) fn print(n: u64) {
@@ -161,15 +162,27 @@ fn order_number(order: Order) -> u64 {
     }
 }
 
+// What a state has behind its places.
+fn print_counts(len: usize, fed: u32, stray: u32, start: u32, order: Order) {
+    print(len as u64);
+    print(fed as u64);
+    print(stray as u64);
+    print(start as u64);
+    print(order_number(order));
+}
+
 pub(crate) fn print_reader(reader: Reader) {
     let held = reader.held;
-    print_bytes(&held);
-    print(reader.len as u64);
-    print(reader.fed as u64);
-    print(reader.stray as u64);
-    print(reader.start as u64);
     let order = reader.order;
-    print(order_number(order));
+    print_bytes(&held);
+    print_counts(reader.len, reader.fed, reader.stray, reader.start, order);
+}
+
+pub(crate) fn print_kept(kept: Kept) {
+    let held = kept.held;
+    let order = kept.order;
+    print_bytes(&held);
+    print_counts(kept.len, kept.fed, kept.stray, kept.start, order);
 }
 
 fn print_slot(slot: Slot) {
