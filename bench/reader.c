@@ -5,7 +5,7 @@
 typedef unsigned char byte;
 typedef unsigned int count;
 
-enum { STX = 2, LF = 10, CR = 13, ETX = 3, HELD = 24 };
+enum { STX = 2, LF = 10, CR = 13, ETX = 3, HELD = 38 };
 
 /* Where things stand between STX and ETX, counted from 0: status and weekday, the tens of each field, and what is fixed, as pairs of
    a place and a character. NONE is a field that the layout does not carry. */

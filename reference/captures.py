@@ -1,4 +1,5 @@
-"""Lines for the program `test_lines`: damaged ones, the samples, and those with a run of stray bytes of each length.
+"""Lines for the program `test_lines`: damaged ones, the samples, those with a run of stray bytes of each length, and those with
+telegrams about as long as can be held.
 
 The program gets a line in pieces: two bytes that say how long a piece is, the higher first, and the piece. 65535 for a length ends
 the line, and what follows is a line of its own. 65534 for a length at a line's beginning says that the line is in exchanged order.
@@ -13,6 +14,7 @@ sys.dont_write_bytecode = True  # leaves no files behind
 
 import line
 import listing
+import long_telegrams
 import making
 import samples
 import second_60
@@ -87,6 +89,11 @@ def around(byte, behind):
     return cuts
 
 
+def into(size):
+    """Cuts so many bytes into each telegram."""
+    return lambda dice, captured: [at + size for at in around(STX, 0)(dice, captured)]
+
+
 def behind_32(dice, captured):
     """Cuts behind each thirty-second event."""
     state, at = line.fresh(), 0
@@ -113,6 +120,9 @@ CUTS = [(by_length, 40, 2500), (around(STX, 0), 10, 2500), (around(STX, 1), 10, 
 # For how many lines with seconds 60.
 CUTS_60 = [(by_length, 6), (around(STX, 0), 2), (around(STX, 1), 2), (around(ETX, 0), 2), (around(ETX, 1), 2), (behind_32, 2),
            (everywhere, 1), (nowhere, 3)]
+
+# How lines with long telegrams are cut: in each of these ways, and at some places inside a telegram.
+CUTS_LONG = [cuts for cuts, _, _ in CUTS] + [into(size) for size in long_telegrams.INTO]
 
 
 def pieces_of(dice, captured, cuts):
@@ -165,7 +175,8 @@ def seconds_60_of(a_line, events):
 
 
 def check(lines):
-    """Fails where there are too few bytes, or where something that has to occur does not occur often enough."""
+    """Fails where there are too few bytes, where something that has to occur does not occur often enough, or where an event has a
+    length that it cannot have."""
     size = sum(len(a_line.captured) for a_line in lines)
     found = [listing.events_of(a_line.captured, a_line.order)[0] for a_line in lines]
     events = collections.Counter(kind_of(event) for some in found for event in some)
@@ -173,9 +184,10 @@ def check(lines):
     seconds = collections.Counter(kind for a_line, some in zip(lines, found) for kind in seconds_60_of(a_line, some))
     rare = [kind for wanted, there in ((WANTED, events), (WANTED_PIECES, cuts), (WANTED_60, seconds)) for kind in wanted
             if there[kind] < AT_LEAST]
-    if rare or size < BYTES or set(events) - set(WANTED) or set(seconds) - {None, *WANTED_60}:
+    wrong = {(kind_of(event), event.length) for some in found for event in some if long_telegrams.length_is_wrong(event)}
+    if rare or wrong or size < BYTES or set(events) - set(WANTED) or set(seconds) - {None, *WANTED_60}:
         raise AssertionError(f"lines of {size} bytes: too rare {rare}, events {dict(events)}, pieces {dict(cuts)}, "
-                             f"seconds 60 {dict(seconds)}")
+                             f"seconds 60 {dict(seconds)}, wrong lengths {wrong}")
 
 
 def changed_by_order(a_line):
@@ -224,8 +236,17 @@ def lines_with_runs(order, seed):
         yield Line(order, pieces_of(None, captured, nowhere))
 
 
+def lines_with_long_telegrams(order, seed):
+    """Lines with telegrams about as long as can be held."""
+    dice = random.Random(seed)
+    for cuts in CUTS_LONG:
+        for captured in long_telegrams.captures(dice, order):
+            yield Line(order, pieces_of(dice, captured, cuts))
+
+
 # The lines of each order: what makes them, and what checks those that it made.
-KINDS = [(damaged_lines, check), (mixed_lines, check_mixed), (lines_with_runs, stray_runs.check)]
+KINDS = [(damaged_lines, check), (mixed_lines, check_mixed), (lines_with_runs, stray_runs.check),
+         (lines_with_long_telegrams, long_telegrams.check)]
 
 
 def all_lines(seed=SEED):

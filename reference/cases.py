@@ -21,6 +21,8 @@ import records
 import request_letters
 import second_60
 import stray_runs
+import takeover
+import takeover_cases
 import telegrams
 import trailers
 import unnamed
@@ -68,7 +70,7 @@ OWN_REFUSALS = {
     **{(letter, NO_SETTING): RECORD | {13, 14} for letter in "WS"},
     **{(letter, kind): RECORD | {12, 13} for letter in "WS" for kind in (NO_ORDER, *ORDERS)},
     "f": set(), **{(letter, order): refusals for order in ORDERS for letter, refusals in (
-        ("g", set()), ("w", set()), ("F", ON_A_LINE), ("V", ON_A_LINE), ("E", {11, 15}))},
+        ("g", set()), ("w", set()), ("F", ON_A_LINE), ("V", ON_A_LINE), ("E", {11, 15}), ("o", {15}))},
     "H": {13}, "G": RECORD | {13}, "X": {13},
     "y": {6, 7}, "l": {1, 3, 4, 17} | RECORD, "e": RECORD | {13, 17}, "q": {18},
 }
@@ -394,6 +396,13 @@ def well_formed_case(state):
     return told(("w", state.order), state_bytes(state), [line.well_formed(state)])
 
 
+def take_over_case(old):
+    """An old state to take over: the refusal, the reader and the old state."""
+    refusal, reader, back = takeover.answer_of(old)
+    SEEN.note(("o", old.order), refusal)
+    return case("o", state_bytes(old)), printed([refusal or 0] + state_numbers(reader) + state_numbers(back))
+
+
 def feed_case(state, piece):
     """A reader to feed. A state that is refused takes nothing and comes back."""
     fed, refusal = outcome(line.feed, state, piece)
@@ -714,21 +723,95 @@ def layout_cases(dice):
 
 # --- the line ---
 
+# A telegram that has not ended, with a byte for each place.
+FULL = b"\x02" + (b"1234567890" * 4)[:37]
+
+
 def states(dice, order):
     """Reader states of an order: well formed ones with any counts, and each clause of the rule broken."""
-    full = b"\x02" + b"1" * 23
-    for fed in (0, 1, 24, 25, 4294967295, dice.randrange(2 ** 32)):
-        for held in (b"", b"\x02", b"\x02E312345617", full[:23], full):
+    for fed in (0, 1, 38, 39, 4294967295, dice.randrange(2 ** 32)):
+        for held in (b"", b"\x02", b"\x02E312345617", FULL[:36], FULL[:37], FULL):
             good = line.with_held(held, fed, dice.choice([0, 7, 4294967295]), order)
             yield good
             yield good._replace(start=(good.start + 1) % line.WRAP)
             yield good._replace(stray=dice.randrange(2 ** 32))
-    for held, size in ((full, 25), (full, 255), (b"1", 1), (b"\x03", 1), (b"\x02\x02", 2), (b"\x02\x03", 2),
-                       (full[:23] + b"\x02", 24), (full[:23] + b"\x03", 24), (b"\x021", 1), (b"", 1)):
-        places = (list(held) + [0] * 24)[:24]
-        yield line.state_of(places, size, 100, 0, (100 - size) % line.WRAP, order)
-    yield line.state_of([0] * 23 + [1], 0, 0, 0, 0, order)
-    yield line.state_of([2] + [0] * 22 + [1], 1, 1, 0, 0, order)
+    for held, size in ((FULL, 39), (FULL, 255), (b"1", 1), (b"\x03", 1), (b"\x02\x02", 2), (b"\x02\x03", 2),
+                       (FULL[:37] + b"\x02", 38), (FULL[:37] + b"\x03", 38), (FULL[:24] + b"\x02", 25), (FULL[:24] + b"\x03", 25),
+                       (FULL, 37), (FULL[:25], 24), (b"\x021", 1), (b"", 1)):
+        yield line.state_of(held.ljust(38, b"\0"), size, 100, 0, (100 - size) % line.WRAP, order)
+    for size, at in itertools.product((0, 1, 24), (24, 37)):
+        places = bytearray(FULL[:size].ljust(38, b"\0"))
+        places[at] = 1
+        yield line.state_of(places, size, size, 0, 0, order)
+
+
+def states_to_judge(dice, order):
+    """Reader states by each number that a byte can give for how many are held, with a telegram's bytes in all places, and with zeros
+    behind those that are held; and good ones with another byte in each place in turn."""
+    for size in range(256):
+        for held in (FULL, FULL[:size]) if size < 38 else (FULL,):
+            fed = dice.choice([0, size, 4294967295, dice.randrange(2 ** 32)])
+            yield line.state_of(held.ljust(38, b"\0"), size, fed, 0, (fed - size) % line.WRAP, order)
+    for size, at in itertools.product((0, 24, 37, 38), range(38)):
+        places = bytearray(FULL[:size].ljust(38, b"\0"))
+        places[at] = dice.choice([2, 3, 4, 255])
+        yield line.state_of(places, size, size, 0, 0, order)
+
+
+AROUND_THE_BOUND = (0, 1, 23, 24, 25, 26, 36, 37, 38)   # how many bytes are held
+
+
+def pieces_around_the_bound(held):
+    """What follows where so many bytes are held: runs of plain bytes of many lengths, among them those that fill the places, leave one
+    free and are one too many; each without an end, with ETX and with STX."""
+    room = line.PLACES - held
+    for size in sorted({0, 1, max(room - 1, 0), room, room + 1, 12, 13, 14, 37, 38, 39, 40, 60}):
+        for ending in (b"", b"\x03", b"\x02"):
+            yield (b"0987654321" * 6)[:size] + ending
+
+
+def fed_around_the_bound(state):
+    """A state that is fed with each of these pieces, and with all of them at once."""
+    pieces = list(pieces_around_the_bound(state.length))
+    for piece in pieces:
+        yield feed_case(state, piece)
+    yield use_up_case(state, b"".join(pieces))
+
+
+def bound_cases(dice, order):
+    """States of an order to judge; readers around the bound, judged, ended, fed up to it and past it."""
+    for state in states_to_judge(dice, order):
+        yield well_formed_case(state)
+    for size in AROUND_THE_BOUND:
+        state = line.with_held(FULL[:size], dice.choice([size, 4294967295, dice.randrange(2 ** 32)]), 7, order)
+        yield well_formed_case(state)
+        yield end_case(state)
+        yield from fed_around_the_bound(state)
+
+
+def taken_over_cases(dice, order):
+    """Old states of an order to take over. Then readers that go on from such states, judged, ended, fed what their telegram lacks,
+    also with other telegrams behind it; and some fed up to the bound and past it."""
+    olds = list(takeover_cases.states(dice, order))
+    takeover_cases.check(olds)
+    for old in olds:
+        yield take_over_case(old)
+    telegram = takeover_cases.full(order)
+    for size in range(takeover.OLD_PLACES + 1):
+        reader = takeover.take_over(takeover_cases.holding(dice, telegram[:size], order))
+        yield well_formed_case(reader)
+        yield end_case(reader)
+        yield feed_case(reader, telegram[size:] + b"\x03")
+        yield use_up_case(reader, telegram[size:] + b"\x03" + making.random_line(dice, making.in_order(making.some_telegram, order)))
+        if size in takeover_cases.SIZES:
+            yield from fed_around_the_bound(reader)
+
+
+def manual_examples_on_lines():
+    """Every example of the manuals on a line, with a byte before and behind it. Some of the remote commands among them are longer than
+    any layout's telegrams."""
+    for example in manual_examples.EXAMPLES:
+        yield use_up_case(line.fresh(), b"x" + example.telegram + b"x")
 
 
 def crowded_piece(dice, some):
@@ -745,7 +828,7 @@ def line_cases(dice, order, rounds):
     for state in states(dice, order):
         yield well_formed_case(state)
         yield end_case(state)
-        for piece in (b"", b"\x02", b"\x03", b"x", b"xx\x02", b"1" * 30):
+        for piece in (b"", b"\x02", b"\x03", b"x", b"xx\x02", b"1" * 40):
             yield feed_case(state, piece)
             yield use_up_case(state, piece)
         for _ in range(6):
@@ -1094,3 +1177,7 @@ def all_cases(seed=SEED):
     yield from order_reads(dice)
     yield from order_writes(dice)
     yield from order_lines(dice)
+    for order in ORDERS:
+        yield from bound_cases(dice, order)
+        yield from taken_over_cases(dice, order)
+    yield from manual_examples_on_lines()

@@ -62,7 +62,7 @@ def setting_number(setting):
 
 
 def state_bytes(state):
-    """38 bytes: the places, how many are held, fed, stray, start, the order."""
+    """52 bytes: the places, how many are held, fed, stray, start, the order. An old state has 24 places, so 38 bytes."""
     counts = b"".join(count.to_bytes(4, "big") for count in (state.fed, state.stray, state.start))
     return bytes(state.places) + bytes([state.length]) + counts + bytes([order_number(state.order)])
 
@@ -125,7 +125,7 @@ def event_numbers(event):
 
 
 def state_numbers(state):
-    """A reader's places and counts, and its order."""
+    """A reader's places, how many are held, fed, stray, start, and the order."""
     return list(state.places) + [state.length, state.fed, state.stray, state.start, order_number(state.order)]
 
 

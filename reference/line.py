@@ -7,13 +7,14 @@ from records import Dated, TimeOnly
 from refusals import ENDED_INSIDE, STATE, STX_INSIDE, TOO_LONG, Refused
 from telegrams import judged
 
-PLACES = 24
+PLACES = 38      # the most bytes that the reader holds; a telegram has at most one more
 AT_A_TIME = 32   # the most events that are handed on at a time
 WRAP = 2 ** 32
 
 
 class State(NamedTuple):
-    """24 byte places of which the first `length` are held, the free running counts, and the line's order."""
+    """Byte places of which the first `length` are held, the free running counts, and the line's order. The reader's has PLACES of
+    them. The rules take the bound from the state, so they are the same for a reader with any other number of places."""
     places: Tuple[int, ...]
     length: int
     fed: int
@@ -48,9 +49,9 @@ def state_of(places, length, fed, stray, start, order=AS_PRINTED):
     return State(tuple(places), length, fed, stray, start, order)
 
 
-def fresh(order=AS_PRINTED):
+def fresh(order=AS_PRINTED, places=PLACES):
     """Holds nothing, all counts 0."""
-    return state_of([0] * PLACES, 0, 0, 0, 0, order)
+    return state_of([0] * places, 0, 0, 0, 0, order)
 
 
 # --- well formed ---
@@ -60,9 +61,14 @@ def held_of(state):
     return bytes(state.places[:state.length])
 
 
-def at_most_24_held(state):
-    """No more are held than there are places."""
-    return 0 <= state.length <= PLACES
+def bound_of(state):
+    """The most bytes that can be held: one in each place."""
+    return len(state.places)
+
+
+def no_more_held_than_places(state):
+    """At most as many bytes are held as the bound says."""
+    return 0 <= state.length <= bound_of(state)
 
 
 def begins_with_its_only_stx(state):
@@ -82,8 +88,8 @@ def start_is_fed_less_held(state):
 
 
 def well_formed(state):
-    """All four clauses. None is about the order."""
-    return (at_most_24_held(state) and begins_with_its_only_stx(state)
+    """All four clauses, of which the first one names the bound. None is about the order."""
+    return (no_more_held_than_places(state) and begins_with_its_only_stx(state)
             and zero_beyond(state) and start_is_fed_less_held(state))
 
 
@@ -95,10 +101,17 @@ def check_state(state):
 
 # --- the moves a reader makes ---
 
-def with_held(held, fed, stray, order=AS_PRINTED):
-    """The well formed state that holds these bytes."""
-    places = list(held) + [0] * (PLACES - len(held))
-    return state_of(places, len(held), fed, stray, (fed - len(held)) % WRAP, order)
+BEGUN = bytes([STX])   # what is held of a telegram that has just begun
+
+
+def with_held(held, fed, stray, order=AS_PRINTED, places=PLACES):
+    """The well formed state of so many places that holds these bytes."""
+    return state_of(held.ljust(places, b"\0"), len(held), fed, stray, (fed - len(held)) % WRAP, order)
+
+
+def moved_on(state, held, fed, stray):
+    """The same reader, holding these bytes."""
+    return with_held(held, fed, stray, state.order, bound_of(state))
 
 
 def event_of(state, length, outcome):
@@ -115,22 +128,22 @@ def outcome_of(telegram, order):
 def take_outside(state, byte, fed):
     """Outside a telegram STX begins one, any other byte is stray."""
     if byte == STX:
-        return with_held([STX], fed, state.stray, state.order), None
-    return with_held([], fed, (state.stray + 1) % WRAP, state.order), None
+        return moved_on(state, BEGUN, fed, state.stray), None
+    return moved_on(state, b"", fed, (state.stray + 1) % WRAP), None
 
 
 def take_inside(state, byte, fed):
     """Inside a telegram: ETX ends it, STX cuts it off and begins the next, any other byte
-    is held, or is the 25th and one too many."""
+    is held, or is one too many where a byte is held in each place."""
     held = held_of(state)
     if byte == ETX:
-        return (with_held([], fed, state.stray, state.order),
+        return (moved_on(state, b"", fed, state.stray),
                 event_of(state, len(held) + 1, outcome_of(held + bytes([ETX]), state.order)))
     if byte == STX:
-        return with_held([STX], fed, state.stray, state.order), event_of(state, len(held), STX_INSIDE)
-    if len(held) == PLACES:
-        return with_held([], fed, state.stray, state.order), event_of(state, len(held) + 1, TOO_LONG)
-    return with_held(held + bytes([byte]), fed, state.stray, state.order), None
+        return moved_on(state, BEGUN, fed, state.stray), event_of(state, len(held), STX_INSIDE)
+    if len(held) == bound_of(state):
+        return moved_on(state, b"", fed, state.stray), event_of(state, len(held) + 1, TOO_LONG)
+    return moved_on(state, held + bytes([byte]), fed, state.stray), None
 
 
 def take(state, byte):
@@ -155,7 +168,7 @@ def end(state):
     """The line's end: the state outside, and 11 for the bytes held if any; or 15."""
     check_state(state)
     event = event_of(state, state.length, ENDED_INSIDE) if state.length else None
-    return with_held([], state.fed, state.stray, state.order), event
+    return moved_on(state, b"", state.fed, state.stray), event
 
 
 def use_up(state, piece):

@@ -115,7 +115,7 @@ def random_line(dice, some=some_telegram):
     for _ in range(dice.randrange(8)):
         telegram = some(dice, dice.random() < 0.9)
         if dice.random() < 0.1:
-            telegram = STX + dice.randbytes(dice.randrange(30))
+            telegram = STX + dice.randbytes(dice.randrange(60))
         parts.append(telegram)
         parts.append(bytes(dice.choice(LIKELY) for _ in range(dice.choice([0, 0, 1, 30]))))
     return b"".join(parts)

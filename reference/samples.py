@@ -41,11 +41,11 @@ def nine_deliveries():
 
 
 def pump_start():
-    """A pump start hits the line between two stamps: bytes without a start, a start with nothing but rubbish behind it, a start cut
-    off by another. The capture ends inside a telegram."""
+    """A pump start hits the line between two stamps: bytes without a start, a start with nothing but rubbish behind it, more than a
+    telegram can have, another with less of it and an end, a start cut off by another. The capture ends inside a telegram."""
     return b"".join([
-        stamp_6021(b"E1061459080496"), bytes(range(0x80, 0x90)), b"\x02" + bytes(range(0xa0, 0xc0)), b"\x02\x91\x92",
-        stamp_6021(b"E1061503080496"), b"\x02E10615",
+        stamp_6021(b"E1061459080496"), bytes(range(0x80, 0x90)), b"\x02" + bytes(range(0xa0, 0xd0)), framed(bytes(range(0xd0, 0xf0))),
+        b"\x02\x91\x92", stamp_6021(b"E1061503080496"), b"\x02E10615",
     ])
 
 

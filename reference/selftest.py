@@ -6,6 +6,7 @@ Prints one line that begins with ok, or stops at the first failure and exits wit
 """
 
 import datetime
+import functools
 import itertools
 import random
 import re
@@ -13,6 +14,7 @@ import sys
 
 sys.dont_write_bytecode = True  # leaves no files behind
 
+import cases
 import days
 import layouts
 import leitch
@@ -22,6 +24,7 @@ import listing
 import log
 import log_listing
 import log_scripts
+import long_telegrams
 import making
 import manual_examples
 import parameter
@@ -33,6 +36,8 @@ import sample_logs
 import samples
 import second_60
 import status
+import takeover
+import takeover_cases
 import telegrams
 import trailers
 import unnamed
@@ -90,9 +95,11 @@ def any_record(dice):
 
 
 def random_line(dice, order=AS_PRINTED):
-    """A damaged line of an order, now and then one of telegrams with second 60, now and then with some of the other order."""
+    """A damaged line of an order, now and then one of telegrams with second 60, now and then with some of the other order, now and
+    then with a long one behind them."""
     some = second_60.some_telegram if dice.random() < 0.2 else making.some_telegram
-    return making.random_line(dice, making.in_order(some, order) if dice.random() < 0.9 else making.in_any_order(some))
+    captured = making.random_line(dice, making.in_order(some, order) if dice.random() < 0.9 else making.in_any_order(some))
+    return captured + (long_telegrams.some_telegram(dice, order) if dice.random() < 0.2 else b"")
 
 
 # --- the document's own examples ---
@@ -583,17 +590,20 @@ def status_and_weekday_characters():
 
 # --- the line ---
 
-TOKENS = re.compile(
-    rb"(?P<ended>\x02[^\x02\x03]{0,23}\x03)|(?P<long>\x02[^\x02\x03]{24})"
-    rb"|(?P<cut>\x02[^\x02\x03]{0,23}(?=\x02))|(?P<open>\x02[^\x02\x03]{0,23}\Z)"
-    rb"|(?P<stray>[^\x02])", re.DOTALL)
+@functools.cache
+def tokens(places):
+    """What a line falls into for a reader with so many places."""
+    return re.compile(
+        rb"(?P<ended>\x02[^\x02\x03]{0,%d}\x03)|(?P<long>\x02[^\x02\x03]{%d})"
+        rb"|(?P<cut>\x02[^\x02\x03]{0,%d}(?=\x02))|(?P<open>\x02[^\x02\x03]{0,%d}\Z)"
+        rb"|(?P<stray>[^\x02])" % (places - 1, places, places - 1, places - 1), re.DOTALL)
 
 
-def events_by_pattern(captured, order):
+def events_by_pattern(captured, order, places=38):
     """The events and the stray count of a whole line of an order, found without the reader. An exchanged telegram is swapped and read
     as printed."""
     events, stray = [], 0
-    for token in TOKENS.finditer(captured):
+    for token in tokens(places).finditer(captured):
         kind, telegram = token.lastgroup, token.group()
         if kind == "stray":
             stray += 1
@@ -631,7 +641,7 @@ def lines(dice, rounds):
         same("line", (state.fed, state.stray, state.order), (len(captured), stray, order))
         same("line", state.fed, sum(event.length for event in events) + stray + state.length)
         last, event = line.end(state)
-        same("line", last, line.state_of([0] * 24, 0, state.fed, stray, state.fed, order))
+        same("line", last, line.state_of([0] * 38, 0, state.fed, stray, state.fed, order))
         same("line", events + ([event] if event else []), whole)
         same("line", line.end(last), (last, None))
 
@@ -664,12 +674,12 @@ def unnamed_on_a_line(dice, rounds):
             same("unnamed on a line", telegrams.write_telegrams(some, bytearray(size - 1)), Written(len(some) - 1, size - 18, 13))
         state, events = fed_in_pieces(dice, line.fresh(), bytes(captured))
         same("unnamed on a line", events, [line.Event(18 * at, 18, record._replace(layout="6021")) for at, record in enumerate(some)])
-        same("unnamed on a line", state, line.state_of([0] * 24, 0, size, 0, size))
+        same("unnamed on a line", state, line.state_of([0] * 38, 0, size, 0, size))
         same("unnamed on a line", line.end(state), (state, None))
         same("unnamed on a line", line.use_up(line.fresh(), bytes(captured)), line.Passed(state, size, tuple(events)))
         bare = b"".join(formerly_written(record) for record in some)
         same("unnamed on a line", fed_in_pieces(dice, line.fresh(), bare),
-             (line.state_of([0] * 24, 0, 16 * len(some), 16 * len(some), 16 * len(some)), []))
+             (line.state_of([0] * 38, 0, 16 * len(some), 16 * len(some), 16 * len(some)), []))
         seen |= {(record.layout, record.second == 60) for record in some}
     same("unnamed on a line", seen, {(layout, at_60) for layout in ("6021", "2000", "5500", "5050") for at_60 in (False, True)})
 
@@ -679,7 +689,7 @@ def wrapping_counts(dice, rounds):
     for order in [*ORDERS] * (rounds // 2):
         captured = random_line(dice, order)
         fed, stray = (dice.choice([WRAP - 1, dice.randrange(WRAP - 200, WRAP)]) for _ in "ab")
-        moved = line.state_of([0] * 24, 0, fed, stray, fed, order)
+        moved = line.state_of([0] * 38, 0, fed, stray, fed, order)
         state, events = fed_in_pieces(dice, line.fresh(order), captured)
         other, other_events = fed_in_pieces(dice, moved, captured)
         same("wrap", other_events, [event._replace(start=(event.start + fed) % WRAP)
@@ -691,19 +701,20 @@ def wrapping_counts(dice, rounds):
 
 def states_not_well_formed(order):
     def state(held, length=None, beyond=0, fed=100, start=None):
-        places = (list(held) + [0] * 24)[:24]
+        places = (list(held) + [0] * 38)[:38]
         length = len(held) if length is None else length
         if beyond:
-            places[23] = beyond
+            places[37] = beyond
         return line.state_of(places, length, fed, 0,
                              (fed - length) % WRAP if start is None else start, order)
 
-    full = b"\x02" + b"1" * 23
-    for good in (state(b""), state(b"\x02"), state(full), state(b"\x02", fed=0),
+    full = b"\x02" + b"1" * 37
+    for good in (state(b""), state(b"\x02"), state(full), state(full[:25]), state(full, fed=0), state(b"\x02", fed=0),
                  state(b"\x02\x00\xff")):
         same("states", line.well_formed(good), True)
         same("states", line.feed(good, b""), line.Fed(good, 0, None))
-    for bad in (state(full, length=25), state(full, length=255), state(b"1"), state(b"\x03"),
+    for bad in (state(full, length=39), state(full, length=255), state(full, length=37), state(full, length=24),
+                state(full[:37] + STX), state(full[:37] + ETX), state(b"1"), state(b"\x03"),
                 state(b"\x02\x02"), state(b"\x02\x03"), state(b"\x021", beyond=1),
                 state(b"", beyond=2), state(b"\x021", length=1), state(b"", start=99),
                 state(b"\x02", start=100), state(b"\x02", fed=0, start=0),
@@ -712,6 +723,270 @@ def states_not_well_formed(order):
         for piece in (b"", b"x", STX, ETX):
             same("states", outcome(line.feed, bad, piece), (None, 15))
         same("states", outcome(line.end, bad), (None, 15))
+
+
+# --- the longest telegram ---
+
+def the_longest_by_hand():
+    """Lines around the bound, what each gives, and how many of its bytes are stray."""
+    for captured, events, stray in (
+            (STX + 23 * b"1" + ETX, [(0, 25, 3)], 0), (STX + 24 * b"1" + ETX, [(0, 26, 1)], 0), (STX + 24 * b"1", [(0, 25, 11)], 0),
+            (STX + 24 * b"1" + STX + b"1", [(0, 25, 9), (25, 2, 11)], 0), (STX + 36 * b"1" + ETX, [(0, 38, 1)], 0),
+            (STX + 37 * b"1" + ETX, [(0, 39, 1)], 0), (STX + 38 * b"1" + ETX, [(0, 39, 10)], 1),
+            (STX + 39 * b"1" + ETX, [(0, 39, 10)], 2), (STX + 36 * b"1" + STX + ETX, [(0, 37, 9), (37, 2, 1)], 0),
+            (STX + 37 * b"1" + STX + ETX, [(0, 38, 9), (38, 2, 1)], 0), (STX + 38 * b"1" + STX + ETX, [(0, 39, 10), (39, 2, 1)], 0),
+            (STX + 39 * b"1" + STX + ETX, [(0, 39, 10), (40, 2, 1)], 1), (STX + 36 * b"1", [(0, 37, 11)], 0),
+            (STX + 37 * b"1", [(0, 38, 11)], 0), (STX + 38 * b"1", [(0, 39, 10)], 0), (STX + 39 * b"1", [(0, 39, 10)], 1),
+            (b"12" + STX + 80 * b"1", [(2, 39, 10)], 44), (2 * (STX + 37 * b"1" + ETX), [(0, 39, 1), (39, 39, 1)], 0),
+            (2 * STX + 38 * b"1" + b"\x00" + STX, [(0, 1, 9), (1, 39, 10), (41, 1, 11)], 1)):
+        for order in ORDERS:
+            there, state = listing.events_of(captured, order)
+            same("longest", (captured, there, state.stray), (captured, [line.Event(*event) for event in events], stray))
+    full = b"\x02" + bytes(range(0x31, 0x56))
+    for fed, start in ((38, 0), (5, 4294967263), (0, 4294967258), (4294967295, 4294967257)):
+        held = line.state_of(full, 38, fed, 3, start)
+        later = (fed + 1) % WRAP
+        same("longest", line.feed(held, b"z1"), line.Fed(line.state_of([0] * 38, 0, later, 3, later), 1, line.Event(start, 39, 10)))
+        same("longest", line.feed(held, ETX), line.Fed(line.state_of([0] * 38, 0, later, 3, later), 1, line.Event(start, 39, 1)))
+        same("longest", line.feed(held, STX), line.Fed(line.state_of([2] + [0] * 37, 1, later, 3, fed), 1, line.Event(start, 38, 9)))
+        same("longest", line.end(held), (line.state_of([0] * 38, 0, fed, 3, fed), line.Event(start, 38, 11)))
+    one_less = line.state_of(full[:37] + b"\0", 37, 37, 0, 0)
+    same("longest", line.feed(one_less, b"U"), line.Fed(line.state_of(full, 38, 38, 0, 0), 1, None))
+    same("longest", line.fresh(EXCHANGED), ((0,) * 38, 0, 0, 0, 0, EXCHANGED))
+    same("longest", (max(layouts.length(layout, True) for layout in layouts.LAYOUTS), log.SLOT - 1), (25, 31))
+
+
+def examples_on_a_line():
+    """A framed example of the manuals gives on a line what it reads as, unless it has more than 39 bytes. Some of the remote commands
+    have 30, and one is too long."""
+    lengths = set()
+    for an_example, reads_as in manual_examples.all_outcomes():
+        telegram, size = an_example.telegram, len(an_example.telegram)
+        if re.fullmatch(rb"\x02[^\x02\x03]*\x03", telegram):
+            lengths.add(size)
+            wanted = ([line.Event(1, size, reads_as)], 2) if size <= 39 else ([line.Event(1, 39, 10)], size - 37)
+            events, state = listing.events_of(b"x" + telegram + b"x")
+            same("longest", (telegram, events, state.stray), (telegram, *wanted))
+    same("longest", ({25, 30} <= lengths, max(lengths) > 39), (True, True))
+
+
+def pump_start_by_hand():
+    """What the sample is to show."""
+    same("longest", listing.listing(samples.pump_start()),
+         b"start;kind;date;time;weekday;status\n"
+         b"0;6021;1996-04-08;06:14:59;1;high,daylight\n"
+         b"34;refused 10\n"
+         b"83;refused 1\n"
+         b"117;refused 9\n"
+         b"120;6021;1996-04-08;06:15:03;1;high,daylight\n"
+         b"138;refused 11\n"
+         b"stray 26\n")
+
+
+def well_formed_by_pattern(state, places):
+    """The rule for so many places, as one pattern over their bytes."""
+    size = state.length
+    if size > places:
+        return False
+    begun = rb"\x02[^\x02\x03]{%d}" % (size - 1) if size else b""
+    fits = re.fullmatch(begun + rb"\0{%d}" % (places - size), bytes(state.places))
+    return fits is not None and (state.start + size - state.fed) % WRAP == 0
+
+
+def states_by_pattern(dice):
+    """The states of the cases are well formed where the pattern says so. Those kept from before the bound was raised are refused
+    where it does not say so for 24 places, and nowhere else."""
+    for order in ORDERS:
+        for state in [*cases.states(dice, order), *cases.states_to_judge(dice, order)]:
+            same("states", (state, line.well_formed(state)), (state, well_formed_by_pattern(state, 38)))
+        for old in takeover_cases.states(dice, order):
+            same("take-over", (old, outcome(takeover.take_over, old)[1]), (old, None if well_formed_by_pattern(old, 24) else 15))
+
+
+# --- states kept from before the bound was raised ---
+
+def take_over_by_hand():
+    """Old states written out, and the readers that they become; and old states that are refused."""
+    full = b"\x02" + bytes(range(0x31, 0x48))
+    for held, counts, order in (
+            (b"", (0, 0, 0), AS_PRINTED), (b"", (7, 5, 7), EXCHANGED), (b"\x02", (1, 0, 0), AS_PRINTED),
+            (b"\x02", (0, 9, 4294967295), EXCHANGED), (b"\x02E3", (10, 7, 7), EXCHANGED), (b"\x02\0\0", (10, 7, 7), AS_PRINTED),
+            (full[:23], (23, 0, 0), AS_PRINTED), (full, (24, 0, 0), EXCHANGED), (full, (5, 4294967295, 4294967277), AS_PRINTED),
+            (full, (4294967295, 1, 4294967271), EXCHANGED)):
+        old = line.State((*held, *[0] * (24 - len(held))), len(held), *counts, order)
+        reader = line.State((*held, *[0] * (38 - len(held))), len(held), *counts, order)
+        same("take-over", takeover.answer_of(old), (None, reader, old))
+    for places, length, counts in (
+            (full, 25, (100, 0, 75)), (full, 26, (100, 0, 74)), (full, 38, (100, 0, 62)), (full, 39, (100, 0, 61)),
+            (full, 255, (300, 0, 45)), (full, 25, (100, 0, 76)), (full, 23, (100, 0, 77)), (full, 0, (100, 0, 100)),
+            (full, 24, (24, 0, 1)), (full, 24, (24, 0, 2 ** 31)), (full, 24, (0, 0, 0)), (bytes(24), 1, (1, 0, 0)),
+            (bytes(24), 25, (25, 0, 0)), (b"\x03" + bytes(23), 1, (1, 0, 0)), (b"1" + full[1:], 24, (24, 0, 0)),
+            (full[:23] + b"\x02", 24, (24, 0, 0)), (full[:23] + b"\x03", 24, (24, 0, 0)), (b"\x02\x02" + bytes(22), 2, (2, 0, 0)),
+            (b"\x02\x03" + bytes(22), 2, (2, 0, 0)), (b"\x021" + bytes(22), 1, (1, 0, 0)), (bytes(23) + b"1", 0, (0, 0, 0))):
+        for order in ORDERS:
+            old = line.State(tuple(places), length, *counts, order)
+            same("take-over", takeover.answer_of(old), (15, line.State((0,) * 38, 0, 0, 0, 0, order), old))
+
+
+def take_over_by_dice(dice, rounds):
+    """25 to 38 held are refused, whatever stands there. Faults are refused, alone and together; a state without any is taken over."""
+    for length, order in itertools.product(range(25, 39), ORDERS):
+        for _ in range(rounds):
+            places = dice.choice([takeover_cases.full(order), dice.randbytes(24), bytes(24)])
+            same("take-over", outcome(takeover.take_over, takeover_cases.saying(dice, places, length, length, order)), (None, 15))
+    for faults, order in itertools.product(rounds * takeover_cases.SETS_OF_FAULTS, ORDERS):
+        old = takeover_cases.with_faults(dice, faults, order)
+        same("take-over", (old, outcome(takeover.take_over, old)[1]), (old, 15 if faults else None))
+
+
+def meaning_of(state):
+    """What a state says of its line."""
+    return bytes(state.places[:state.length]), state.fed, state.stray, state.start, state.order
+
+
+def goes_on(old, captured):
+    """A reader with the old bound and the one that takes its state over, byte by byte: the same events, counts and held bytes, and at
+    each byte the latter is what the former is taken over as. Where the former gives its first 10, the latter holds 25 bytes. Tells
+    whether it came to that."""
+    new = takeover.take_over(old)
+    same("two bounds", (line.well_formed(new), meaning_of(new)), (True, meaning_of(old)))
+    for byte in captured:
+        held = line.held_of(old) + bytes([byte])
+        (old, event), (new, other) = line.take(old, byte), line.take(new, byte)
+        if event is not None and event.outcome == 10:
+            same("two bounds", (event.length, other, new.length, meaning_of(new)),
+                 (25, None, 25, (held, old.fed, old.stray, event.start, old.order)))
+            return True
+        same("two bounds", (other, meaning_of(new), new), (event, meaning_of(old), takeover.take_over(old)))
+    (old, event), (new, other) = line.end(old), line.end(new)
+    same("two bounds", (other, new), (event, takeover.take_over(old)))
+    return False
+
+
+def two_bounds(dice, rounds):
+    """Damaged lines behind old states, until the old bound makes a difference; where it makes none, also by the calls, in any pieces.
+    The old bound gives what a pattern says too."""
+    too_long = 0
+    for order in [*ORDERS] * (rounds // 2):
+        old, captured = takeover_cases.from_a_line(dice, order), random_line(dice, order)
+        new, differs = takeover.take_over(old), goes_on(old, captured)
+        if not differs:
+            (state, events), (later, others) = (fed_in_pieces(dice, there, captured) for there in (old, new))
+            same("two bounds", (others, later), (events, takeover.take_over(state)))
+            same("two bounds", line.use_up(new, captured)[1:], line.use_up(old, captured)[1:])
+        state, events = fed_in_pieces(dice, line.fresh(order, 24), captured)
+        event = line.end(state)[1]
+        same("two bounds", events + ([event] if event else []), events_by_pattern(captured, order, 24)[0])
+        too_long += differs
+    same("two bounds", rounds < 10 * too_long < 9 * rounds, True)
+
+
+WORDS = [b"".join(word) for size in range(6) for word in itertools.product((STX, ETX, b"1"), repeat=size)]
+
+
+def every_word():
+    """All short words of STX, ETX and a plain byte, where nothing is held, and where about as many bytes are held as can be, by each
+    bound: old states go on as they should, and both bounds give what a pattern says of the held bytes and the word."""
+    differs = set()
+    for size, word in itertools.product((0, 1, *range(20, 26), *range(34, 39)), WORDS):
+        held, order = (STX + 37 * b"1")[:size], ORDERS[size % 2]
+        if size <= 24:
+            differs.add((size, goes_on(line.with_held(held, size, 0, order, 24), word)))
+        for places in (24, 38) if size <= 24 else (38,):
+            state, _, events = line.use_up(line.with_held(held, size, 0, order, places), word)
+            same("every word", line.well_formed(state), True)
+            last, event = line.end(state)
+            wanted, stray = events_by_pattern(held + word, order, places)
+            same("every word", (held, word, [*events, event] if event else [*events]), (held, word, wanted))
+            same("every word", (last.stray, last.fed), (stray, size + len(word)))
+    same("every word", differs, {(size, False) for size in (0, 1, *range(20, 25))} | {(size, True) for size in range(20, 25)})
+
+
+# --- changed rules ---
+
+CLAUSES = (line.no_more_held_than_places, line.begins_with_its_only_stx, line.zero_beyond, line.start_is_fed_less_held)
+
+
+def without(clause):
+    """The rule without one of its clauses."""
+    return lambda state: all(other(state) for other in CLAUSES if other is not clause)
+
+
+def overlooking(at):
+    """The rule without a look at one place."""
+    def well_formed(state):
+        fitting = 0 if at >= state.length else 0x31 if at else 2
+        return line.well_formed(state._replace(places=(*state.places[:at], fitting, *state.places[at + 1:])))
+    return well_formed
+
+
+def wrong_rules(places):
+    """Rules for states of so many places that are not quite the right one."""
+    yield from map(without, CLAUSES)
+    yield from map(overlooking, range(places))
+    yield lambda state: line.well_formed(state) and state.length < places
+    yield lambda state: state.length <= places + 1 and without(line.no_more_held_than_places)(state)
+    yield lambda state: line.well_formed(state) and state.start <= state.fed
+    yield lambda state: line.well_formed(state) and state.length > 0
+    yield lambda state: line.well_formed(with_more_places(state))
+
+
+def with_more_places(state):
+    """A state with 14 places more."""
+    return state._replace(places=state.places + (0,) * 14)
+
+
+def changed_field(name, change):
+    """A reader with another count."""
+    return lambda old, new: new._replace(**{name: change(getattr(new, name))})
+
+
+# What an old state that is taken over might become and does not.
+WRONG_READERS = [
+    lambda old, new: line.fresh(old.order), lambda old, new: new._replace(order=AS_PRINTED),
+    lambda old, new: new._replace(order=EXCHANGED), lambda old, new: new._replace(places=(0,) * 14 + old.places),
+    lambda old, new: new._replace(places=old.places + (255,) * 14), lambda old, new: new._replace(places=old.places + old.places[:14]),
+    lambda old, new: new._replace(places=old.places[:23] + (0,) * 15), lambda old, new: new._replace(fed=old.stray, stray=old.fed),
+    lambda old, new: new._replace(length=len(bytes(old.places).rstrip(b"\0"))), lambda old, new: new._replace(start=old.fed),
+    lambda old, new: new._replace(start=max(old.fed - old.length, 0)), lambda old, new: new._replace(start=(old.fed - 24) % WRAP),
+    *(changed_field(name, lambda count: 0) for name in ("length", "fed", "stray", "start")),
+    *(changed_field(name, lambda count: count + 1) for name in ("length", "fed", "stray", "start"))]
+
+# What might be handed back of a refused one and is not.
+WRONG_REFUSALS = [
+    with_more_places, lambda old: line.fresh(old.order), lambda old: line.fresh(old.order, 24),
+    lambda old: old._replace(length=min(old.length, 24)), lambda old: old._replace(start=(old.fed - old.length) % WRAP),
+    lambda old: old._replace(order=AS_PRINTED), lambda old: old._replace(places=bytes(old.places[:old.length]).ljust(24, b"\0"))]
+
+
+def changed_rules(dice):
+    """Another rule for states, and another take-over, are noticed by the states of the cases."""
+    judged = [state for order in ORDERS for state in (*cases.states(dice, order), *cases.states_to_judge(dice, order))]
+    olds = [old for order in ORDERS for old in takeover_cases.states(dice, order)]
+    for places, states in ((38, judged), (24, olds)):
+        right = [line.well_formed(state) for state in states]
+        for number, rule in enumerate(wrong_rules(places)):
+            same("changed rules", (places, number, [rule(state) for state in states] != right), (places, number, True))
+    taken = [(old, takeover.take_over(old)) for old in olds if line.well_formed(old)]
+    refused = [old for old in olds if not line.well_formed(old)]
+    for number, change in enumerate(WRONG_READERS):
+        same("changed rules", (number, any(change(old, new) != new for old, new in taken)), (number, True))
+    for number, change in enumerate(WRONG_REFUSALS):
+        same("changed rules", (number, any(change(old) != old for old in refused)), (number, True))
+
+
+def fed_with_bound(places, size, piece):
+    """What a reader with so many places, which holds so many bytes, does with a piece."""
+    state, *answer = line.feed(line.with_held(cases.FULL[:size], size, 0, AS_PRINTED, places), piece)
+    return meaning_of(state), answer
+
+
+def changed_bounds():
+    """A reader with any other bound is noticed by what the cases feed around the bound."""
+    fed = [(size, piece) for size in cases.AROUND_THE_BOUND for piece in cases.pieces_around_the_bound(size)]
+    for places in (24, 25, 36, 37, 39, 40, 255):
+        noticed = any(fed_with_bound(places, *there) != fed_with_bound(38, *there) for there in fed if there[0] <= places)
+        same("changed rules", (places, noticed), (places, True))
 
 
 # --- the order of the trailer ---
@@ -854,7 +1129,7 @@ def good_lines(dice, rounds):
                 wanted.append(line.Event(len(captured), len(telegram), record))
                 captured += telegram
         size = len(captured)
-        outside = line.state_of([0] * 24, 0, size, stray, size, order)
+        outside = line.state_of([0] * 38, 0, size, stray, size, order)
         same("good lines", fed_in_pieces(dice, line.fresh(order), captured), (outside, wanted))
         same("good lines", line.end(outside), (outside, None))
         same("good lines", line.use_up(line.fresh(order), captured), line.Passed(outside, size, tuple(wanted)))
@@ -877,14 +1152,16 @@ def cut_at_each_place(dice, rounds):
                     events += some
             left, event = line.end(state)
             same("cut", events + ([event] if event else []), wanted)
-            same("cut", left, line.state_of([0] * 24, 0, len(captured), stray, len(captured), order))
+            same("cut", left, line.state_of([0] * 38, 0, len(captured), stray, len(captured), order))
             same("cut", (state.fed, state.order), (sum(event.length for event in events) + stray + state.length, order))
 
 
 def state_of_either_order(dice, rounds):
     """The order changes nothing but what an ended telegram is: a state of each order takes the same bytes, and keeps its order."""
     for _ in range(rounds):
-        piece, held = random_line(dice, dice.choice(ORDERS)), making.some_telegram(dice, True)[:dice.randrange(25)].rstrip(ETX)
+        piece = random_line(dice, dice.choice(ORDERS))
+        begun = dice.choice([making.some_telegram(dice, True), long_telegrams.some_telegram(dice, AS_PRINTED)])
+        held = begun[:dice.randrange(39)].rstrip(ETX)
         held = held if line.well_formed(line.with_held(held, 0, 0)) else b""
         as_printed, exchanged = (line.feed(line.with_held(held, 7, 9, order), piece) for order in ORDERS)
         same("orders", (as_printed.state.order, exchanged.state.order), ORDERS)
@@ -1436,6 +1713,16 @@ def main():
     wrapping_counts(dice, 300)
     for order in ORDERS:
         states_not_well_formed(order)
+    states_by_pattern(dice)
+    the_longest_by_hand()
+    examples_on_a_line()
+    pump_start_by_hand()
+    take_over_by_hand()
+    take_over_by_dice(dice, 10)
+    two_bounds(dice, 400)
+    every_word()
+    changed_rules(dice)
+    changed_bounds()
     orders_by_hand()
     telegrams_of_the_cases()
     orders_of_writing(dice, 3000)
