@@ -51,7 +51,7 @@ fn with_more_places(kept: Kept) -> Reader
     }
 }
 
-// A state that is not well formed: nothing of it goes into a reader.
+// A state that is not well formed: nothing of it but its order goes on.
 fn refused(kept: Kept) -> TakenOver
     ensures { λ r. ⌜ r ≡ refusedFor kept ⌝ }
 {
