@@ -13,10 +13,11 @@ use Rattle.trailer.specs.declared.Order.{Order}
 use Rattle.telegram.specs.Reading.{readIn}
 use Rattle.ascii.specs.Control.{stx, etx}
 use Rattle.line.specs.declared.Heard.the-variants.{Event}
-use Rattle.line.specs.Line.{places, Line, lineWith, freshLine, allPlain, wellFormedAt, answerFor}
+use Rattle.line.specs.Line.{places, Line, lineWith, freshLine, allPlain, wellFormedAt, answerFor, startOf, toldByEnd, heardFor}
 use Rattle.line.specs.Cuts.{eventsOf, lineAfter}
-use Rattle.line.specs.LongerTelegrams.{UpTo38BytesAreHeld, TenIsGivenWhen38AreHeld, UpTo39BytesAreJudged, TheRuleIsTheOneAt38}
-use Rattle.line.proofs.CutLaws.{events-join, after-join}
+use Rattle.line.specs.LongerTelegrams.{UpTo38BytesAreHeld, StxCutsOffUpTo38, TheEndCutsOffUpTo38, TenIsGivenWhen38AreHeld, UpTo39BytesAreJudged, TheRuleIsTheOneAt38}
+use Rattle.line.proofs.StaysGood.{end-good}
+use Rattle.line.proofs.CutLaws.{good-fresh, events-join, after-join, good-after}
 use Rattle.line.proofs.SentLaws.{plain-gives}
 
 module _ (order : Order) (body : List ℕ) (plain : allPlain body ≡ true) (room : length body ≤ 37) where
@@ -40,6 +41,22 @@ up-to-38-bytes-are-held order body plain room = (gives order body plain room .0,
 
 begins-at-0 : (n : ℕ) → n ≤ 37 → (1 + n + (2 ^ 32 - suc n)) % 2 ^ 32 ≡ 0
 begins-at-0 n fits = omega arith
+
+pub stx-cuts-off-up-to-38 : StxCutsOffUpTo38
+stx-cuts-off-up-to-38 order body plain room =
+    let size : suc (length body) ≡ length body + 1 = omega arith in (
+      then-tells order body plain room stx
+          ∙ ap₂ (λ start size. Event (answer.Refused 9) start size ∷ []) (begins-at-0 (length body) room) size,
+      ap (λ line. line .held) (then-is order body plain room stx),
+    )
+
+pub the-end-cuts-off-up-to-38 : TheEndCutsOffUpTo38
+the-end-cuts-off-up-to-38 order body plain room =
+    let size : suc (length body) ≡ length body + 1 = omega arith in
+    let good = good-after (freshLine order) (stx ∷ body) (good-fresh order) in
+    ap (λ ended. ended .heard) (end-good (lineAfter (freshLine order) (stx ∷ body)) good)
+    ∙ ap (λ line. heardFor (toldByEnd (line .held)) (startOf line)) (gives order body plain room .1)
+    ∙ ap₂ (λ start size. Event (answer.Refused 11) start size) (begins-at-0 (length body) room) size
 
 pub ten-is-given-when-38-are-held : TenIsGivenWhen38AreHeld
 ten-is-given-when-38-are-held order body byte plain full other =

@@ -11,7 +11,7 @@ use Rattle.telegram.specs.Reading.{readIn}
 use Rattle.ascii.specs.Control.{stx, etx}
 use Rattle.line.specs.declared.Reader.{Reader}
 use Rattle.line.specs.declared.Heard.the-variants.{Event}
-use Rattle.line.specs.Line.{freshLine, isPlain, allPlain, wellFormedAt, wellFormed, answerFor}
+use Rattle.line.specs.Line.{freshLine, isPlain, allPlain, readerOf, wellFormedAt, wellFormed, answerFor, endReader}
 use Rattle.line.specs.Cuts.{eventsOf, lineAfter}
 
 -- "the reader then holds 0 to 38 bytes": STX and up to 37 behind it tell nothing, and all of them are held
@@ -19,6 +19,18 @@ abbrev pub UpTo38BytesAreHeld : Type 0
 UpTo38BytesAreHeld =
     (order : Order) (body : List ℕ) → allPlain body ≡ true → length body ≤ 37
     → (eventsOf (freshLine order) (stx ∷ body) ≡ []) × (lineAfter (freshLine order) (stx ∷ body) .held ≡ stx ∷ body)
+
+-- an STX cuts so many off, with 9, and begins a telegram; the end of the line cuts so many off, with 11
+abbrev pub StxCutsOffUpTo38 : Type 0
+StxCutsOffUpTo38 =
+    (order : Order) (body : List ℕ) → allPlain body ≡ true → length body ≤ 37
+    → (eventsOf (freshLine order) (stx ∷ body ++ stx ∷ []) ≡ Event (answer.Refused 9) 0 (length body + 1) ∷ [])
+    × (lineAfter (freshLine order) (stx ∷ body ++ stx ∷ []) .held ≡ stx ∷ [])
+
+abbrev pub TheEndCutsOffUpTo38 : Type 0
+TheEndCutsOffUpTo38 =
+    (order : Order) (body : List ℕ) → allPlain body ≡ true → length body ≤ 37
+    → endReader (readerOf (lineAfter (freshLine order) (stx ∷ body))) .heard ≡ Event (answer.Refused 11) 0 (length body + 1)
 
 -- "10 is given when 38 are held, with a refused length of 39": by any plain byte, and the reader is outside
 abbrev pub TenIsGivenWhen38AreHeld : Type 0

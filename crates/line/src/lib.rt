@@ -24,7 +24,7 @@ ghost use mathlib.Core.List.{[], _∷_};
 ghost use Prim.Native.Nat.{_+_, _%_, _^_, _<_};
 ghost use lib.ListN.{length, take, drop};
 
-// How many bytes a reader holds at most; a telegram of one more is too long.
+// How many bytes a reader holds at most. A telegram has one more at most: its ETX, or the byte that is too many.
 pub const PLACES: usize = 38;
 
 const LONGEST: u32 = PLACES as u32 + 1;

@@ -1,6 +1,6 @@
 -- Laws of a block and its telegrams: the block that they make is good and has them. Assumes nothing.
 use mathlib.Core.Path.{_≡_, refl, ap, ap₂, sym, _∙_}
-use mathlib.Core.Bool.{true}
+use mathlib.Core.Bool.{true, false}
 use mathlib.Core.List.{List, [], _∷_, _++_, append-assoc, append-nil}
 use Prim.Native.Nat.{ℕ, zero, suc, _*_, _-_, _≤_, _<_}
 use native.Mathlib.Omega.{arith}
@@ -29,16 +29,19 @@ use Rattle.log.proofs.SameLaws.{same-true, same-refl, length-filled}
 
 -- an accepted telegram has at most 30 bytes, and so it fits a slot
 pub none-accepted-is-longer : NoneAcceptedIsLonger
-none-accepted-is-longer order telegram rec e =
+none-accepted-is-longer order true telegram rec e =
     let size : length (written order true rec) ≡ length telegram = ap length (accepted order true telegram rec e .is-written) in
     omega (arith, size, length-telegram order true rec, length-framed rec, length-body rec, row-length (ownLayout rec) .1)
+none-accepted-is-longer order false telegram rec e =
+    let size : length (written order false rec) ≡ length telegram = ap length (accepted order false telegram rec e .is-written) in
+    omega (arith, size, length-telegram order false rec, length-body rec, row-length (ownLayout rec) .1)
 
 pub reads-short : (telegram : List ℕ) → readsWell telegram ≡ true → length telegram < slotSize
 unfolding readsWell
 reads-short telegram = go (readOf true telegram) refl
   where
     go : (o : Outcome Record) → readOf true telegram ≡ o → isDone o ≡ true → length telegram < slotSize
-    go (done rec) e reads = omega (arith, none-accepted-is-longer AsPrinted telegram rec e)
+    go (done rec) e reads = omega (arith, none-accepted-is-longer AsPrinted true telegram rec e)
     go (refused n) e reads = let z : _≡_ {A = ℕ} 0 1 = cc in absurd (omega arith)
 
 -- telegrams that fit their slots

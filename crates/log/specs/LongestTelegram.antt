@@ -1,5 +1,5 @@
 -- Document 02, g: "none that will be accepted is longer than 30, so log blocks stay as they are".
-use mathlib.Core.Bool.{true}
+use mathlib.Core.Bool.{Bool}
 use mathlib.Core.List.{List}
 use mathlib.Core.Path.{_≡_}
 use Prim.Native.Nat.{ℕ, _≤_}
@@ -11,13 +11,14 @@ use Rattle.telegram.specs.Reading.{readIn}
 use Rattle.log.specs.Block.{slotSize, slotOf}
 use Rattle.log.specs.Good.{telegramIn}
 
--- "none that will be accepted is longer than 30", with its STX and ETX and in either order
+-- "none that will be accepted is longer than 30", with control characters or without, in either order
 abbrev pub longestAccepted : ℕ
 longestAccepted = 30
 
 abbrev pub NoneAcceptedIsLonger : Type 0
 NoneAcceptedIsLonger =
-    (order : Order) (telegram : List ℕ) (rec : Record) → readIn order true telegram ≡ done rec → length telegram ≤ longestAccepted
+    (order : Order) (control : Bool) (telegram : List ℕ) (rec : Record) → readIn order control telegram ≡ done rec
+    → length telegram ≤ longestAccepted
 
 -- "so log blocks stay as they are": so many bytes and their length byte fill no more than a slot, and are found in it again
 abbrev pub ThatManyFitASlot : Type 0

@@ -10,12 +10,12 @@ use Rattle.refusals.proofs.Laws.{both}
 use Rattle.line.specs.declared.Reader.{Reader}
 use Rattle.line.specs.declared.Heard.{Heard}
 use Rattle.line.specs.declared.Heard.the-variants.{Nothing, Event, Refused}
-use Rattle.line.specs.Line.{places, Line, readerWith, startOf, ended, toldByEnd, feedAt, heardFor, fedAt, readerAt, lineOf, wellFormedAt, wellFormed, feedReaderAt, feedReader, endReaderAt, endReader, isStarted}
+use Rattle.line.specs.Line.{places, Line, readerWith, startOf, ended, toldByEnd, feedAt, heardFor, fedAt, readerAt, lineOf, wellFormedAt, wellFormed, feedReaderAt, feedReader, endReaderAt, endReader, isStarted, freshLine}
 use Rattle.line.specs.Cuts.{eventsAt, lineAfterAt, Calls, calledFor, callsThen, feeding, heardThen, callsOf, Served, heardOf, readerBehind}
 use Rattle.line.proofs.ReaderLaws.{well as well-of}
-use Rattle.line.proofs.StaysGood.{GoodAt, good-feed-at, reader-of-good}
+use Rattle.line.proofs.StaysGood.{GoodAt, good-feed-at, good-after-at, reader-of-good}
 use Rattle.takeover.specs.TakingOver.{keptPlaces, stateOf, wasWellFormed, withMorePlaces, takenOver, refusedFor, takeOver}
-use Rattle.takeover.specs.Sentences.{lineKept, isTen, noTen, fedOn, endedOn, TheOldBoundIs24, RefusesWhatTheOldRuleRefused, ARefusedStateComesBackUnchanged, MoreHeldThanThereWerePlacesIs15, WhatIsTakenOverIsTheSame, WhatIsTakenOverIsWellFormed, WithoutATenNothingDiffers, ACallWithoutATenIsTheSame, TheEndIsTheSame, WithoutATenEachCutIsTheSame}
+use Rattle.takeover.specs.Sentences.{lineKept, isTen, noTen, fedOn, endedOn, TheOldBoundIs24, RefusesWhatTheOldRuleRefused, WhatTheOldReaderLeftIsTakenOver, ARefusedStateComesBackUnchanged, MoreHeldThanThereWerePlacesIs15, WhatIsTakenOverIsTheSame, WhatIsTakenOverIsWellFormed, WithoutATenNothingDiffers, ACallWithoutATenIsTheSame, TheEndIsTheSame, WithoutATenEachCutIsTheSame}
 use Rattle.takeover.proofs.TakingOverLaws.{same-held, same-line, as-well-formed, too-many, takes, refuses}
 use Rattle.takeover.proofs.BoundLaws.{heardIn, bytes-alike, call-alike}
 
@@ -138,6 +138,11 @@ module _ (state : Reader) (size : length (state .held) ≡ keptPlaces) (well : w
 
   next-well : (piece : List ℕ) → wellFormedAt keptPlaces (feedReaderAt keptPlaces state piece .reader) ≡ true
   next-well piece = ap (wellFormedAt keptPlaces) (next-is piece) ∙ own-well (feedAt keptPlaces (lineOf state) piece .line) (good-next piece)
+
+pub what-the-old-reader-left : WhatTheOldReaderLeftIsTakenOver
+what-the-old-reader-left kept order bytes is =
+    let good = good-after-at keptPlaces (omega arith) (freshLine order) bytes (record { fits = omega arith; started = refl }) in
+    ap (λ taken. taken .refusal) (takes kept (ap (wellFormedAt keptPlaces) is ∙ own-well (lineAfterAt keptPlaces (freshLine order) bytes) good))
 
 pub a-call-without-a-ten : ACallWithoutATenIsTheSame
 a-call-without-a-ten kept piece declared well none = call (stateOf kept) (declared .0) well piece none

@@ -12,7 +12,8 @@ use Rattle.line.specs.declared.Heard.{Heard}
 use Rattle.line.specs.declared.Heard.the-variants.{Nothing, Event, Refused}
 use Rattle.line.specs.declared.Fed.{Fed}
 use Rattle.line.specs.declared.Ended.{Ended}
-use Rattle.line.specs.Line.{Line, lineOf, freshIn, wellFormed, AsDeclared, feedReaderAt, feedReader, endReaderAt, endReader}
+use Rattle.trailer.specs.declared.Order.{Order}
+use Rattle.line.specs.Line.{Line, lineOf, readerAt, freshLine, freshIn, wellFormedAt, wellFormed, AsDeclared, feedReaderAt, feedReader, endReaderAt, endReader}
 use Rattle.line.specs.Cuts.{eventsAt, lineAfterAt, eventsOf, lineAfter, feeding, Served, heardOf, readerBehind, heardFrom, readerAfter}
 use Rattle.takeover.specs.declared.Kept.{Kept}
 use Rattle.takeover.specs.TakingOver.{keptPlaces, stateOf, wasWellFormed, AsKept, withMorePlaces, takeOver}
@@ -28,20 +29,25 @@ lineKept kept = lineOf (stateOf kept)
 abbrev pub TheOldBoundIs24 : Type 0
 TheOldBoundIs24 = keptPlaces ≡ 24
 
--- "it refuses with 15 exactly what the old well-formed rule refused"
+-- "which refuses as the old well-formed rule did": with 15, and exactly where that rule, written out, does
 abbrev pub RefusesWhatTheOldRuleRefused : Type 0
-RefusesWhatTheOldRuleRefused = (kept : Kept) → takeOver kept .refusal ≡ cond (wasWellFormed kept) 0 15
+RefusesWhatTheOldRuleRefused = (kept : Kept) → takeOver kept .refusal ≡ cond (wellFormedAt 24 (stateOf kept)) 0 15
 
--- "a refused state comes back unchanged", as any does, and nothing of it goes on: the reader beside it is a fresh one of its order
+-- so whatever the old reader left, behind any bytes, is taken over
+abbrev pub WhatTheOldReaderLeftIsTakenOver : Type 0
+WhatTheOldReaderLeftIsTakenOver =
+    (kept : Kept) (order : Order) (bytes : List ℕ) → stateOf kept ≡ readerAt 24 (lineAfterAt 24 (freshLine order) bytes) → takeOver kept .refusal ≡ 0
+
+-- a refused state comes back unchanged, as any does, and nothing of it but its order goes on: the reader beside it is a fresh one
 abbrev pub ARefusedStateComesBackUnchanged : Type 0
 ARefusedStateComesBackUnchanged =
     (kept : Kept) → (takeOver kept .kept ≡ kept) × (wasWellFormed kept ≡ false → takeOver kept .reader ≡ freshIn (kept .order))
 
--- "a len of 25 to 38 in an old state is 15, whatever stands there", and so is any above
+-- 25 to 38 held is 15, whatever stands there, and so is any above
 abbrev pub MoreHeldThanThereWerePlacesIs15 : Type 0
 MoreHeldThanThereWerePlacesIs15 = (kept : Kept) → 24 < kept .len → takeOver kept .refusal ≡ 15
 
--- any other state is taken over, with "the same held bytes, counts, start and order"
+-- any other state is taken over, with the same held bytes, counts, start and order
 abbrev pub WhatIsTakenOverIsTheSame : Type 0
 WhatIsTakenOverIsTheSame =
     (kept : Kept) → AsKept kept → wasWellFormed kept ≡ true
@@ -54,7 +60,7 @@ WhatIsTakenOverIsTheSame =
     × (reader .start ≡ kept .start)
     × (reader .order ≡ kept .order)
 
--- "what is taken over is well formed and means the same line"
+-- what is taken over is well formed and means the same line
 abbrev pub WhatIsTakenOverIsWellFormed : Type 0
 WhatIsTakenOverIsWellFormed =
     (kept : Kept) → AsKept kept → wasWellFormed kept ≡ true
@@ -71,7 +77,7 @@ abbrev pub noTen : List Heard → Bool
 noTen [] = true
 noTen (heard ∷ more) = not (isTen heard) && noTen more
 
--- "on all bytes on which the old reader gives no 10 it gives the same events, counts and held bytes"
+-- on all bytes on which the old reader gives no 10, the new one gives the same events, counts and held bytes
 abbrev pub WithoutATenNothingDiffers : Type 0
 WithoutATenNothingDiffers =
     (kept : Kept) (bytes : List ℕ) → AsKept kept → wasWellFormed kept ≡ true → noTen (eventsAt keptPlaces (lineKept kept) bytes) ≡ true

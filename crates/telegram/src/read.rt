@@ -17,7 +17,7 @@ ghost use Rattle.record.specs.Answers.{recordAnswer};
 ghost use Rattle.trailer.specs.declared.Order.the-variants.{Exchanged};
 ghost use Rattle.telegram.specs.Reading.{framed, readBodyAs, readIn, readOf};
 
-// No telegram is longer, with STX and ETX or without.
+// No layout is longer, with STX and ETX or without.
 const LONGEST: usize = 25;
 
 // A body of a known layout: what stands between STX and ETX.
