@@ -1,6 +1,6 @@
 -- Document 02 c): what its sentences say of every region, each as a statement beside its words.
 use mathlib.Core.Bool.{true, false}
-use mathlib.Core.List.{List, [], _∷_, _++_, map}
+use mathlib.Core.List.{List, [], _∷_}
 use mathlib.Core.Path.{_≡_}
 use Prim.Native.Nat.{ℕ, zero, suc, _+_, _*_, _%_, _/_, _≤_, _<_}
 use lib.ListN.{length, getD, replicate}

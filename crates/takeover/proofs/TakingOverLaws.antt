@@ -24,7 +24,7 @@ zeros-behind (byte ∷ bytes) n = ap (_&&_ (eqb byte 0)) (zeros-behind bytes n)
 
 module _ (state : Reader) (size : length (state .held) ≡ keptPlaces) (fits : state .len ≤ keptPlaces) where
   pub same-held : take (state .len) (withMorePlaces state .held) ≡ take (state .len) (state .held)
-  same-held = take-append-le (state .len) (state .held) (replicate (places - keptPlaces) 0) (omega arith)
+  same-held = take-append-le (state .len) (state .held) _ (omega arith)
 
   pub same-line : lineOf (withMorePlaces state) ≡ lineOf state
   same-line = ap (λ held. lineWith held (state .fed) (state .stray) (state .order)) same-held
@@ -34,7 +34,7 @@ module _ (state : Reader) (size : length (state .held) ≡ keptPlaces) (fits : s
   unfolding wellFormedAt
   as-well-formed =
       let zero : allZero (drop (state .len) (withMorePlaces state .held)) ≡ allZero (drop (state .len) (state .held)) =
-      ap allZero (drop-append-le (state .len) (state .held) (replicate (places - keptPlaces) 0) (omega arith))
+      ap allZero (drop-append-le (state .len) (state .held) _ (omega arith))
       ∙ zeros-behind (drop (state .len) (state .held)) (places - keptPlaces) in
       ap₂ _&&_ (le-leb (state .len) places (omega arith) ∙ sym (le-leb (state .len) keptPlaces fits))
       (ap₂ _&&_ (ap isStarted same-held) (ap₂ _&&_ zero (ap (λ line. eqb (state .start) (startOf line)) same-line)))
