@@ -53,7 +53,7 @@ alike order held fed fed' stray stray' (byte ∷ piece) fits f s =
     alike-by (toldBy order held byte) _ _ _ _ _ _ start next on
 
 -- a reader of a line that was started well is well formed
-zeros-are : (n : ℕ) → allZero (replicate n 0) ≡ true
+pub zeros-are : (n : ℕ) → allZero (replicate n 0) ≡ true
 zeros-are zero = refl
 zeros-are (suc n) = zeros-are n
 

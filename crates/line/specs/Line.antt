@@ -1,4 +1,4 @@
--- Document 01, "The line, byte by byte", and document 02, f: "the trailer order .. becomes a setting of the line".
+-- Document 01, "The line, byte by byte", and document 02, f: "the trailer order .. becomes a setting of the line", and g: the bound.
 use mathlib.Core.Bool.{Bool, true, cond, not, _&&_}
 use mathlib.Core.List.{List, [], _∷_, _++_}
 use mathlib.Core.Path.{_≡_}

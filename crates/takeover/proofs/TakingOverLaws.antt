@@ -1,8 +1,8 @@
 -- Laws of taking a state over: with more places, and zeros in them, it is as well formed and means the same. Assumes nothing.
-use mathlib.Core.Path.{_≡_, refl, ap, ap₂, sym, _∙_}
+use mathlib.Core.Path.{_≡_, ap, ap₂, sym, _∙_}
 use mathlib.Core.Bool.{true, false, _&&_}
 use mathlib.Core.List.{List, [], _∷_, _++_, map}
-use Prim.Native.Nat.{ℕ, zero, suc, _-_, _≤_, _<_}
+use Prim.Native.Nat.{ℕ, zero, _-_, _≤_, _<_}
 use native.Mathlib.Omega.{arith}
 use lib.Dec.{eqb}
 use lib.ListN.{length, take, drop, replicate, length-map}
@@ -10,16 +10,13 @@ use lib.Seq.{take-append-le, drop-append-le}
 use borrow.Author.Tests.{le-leb, lt-leb}
 use Rattle.line.specs.declared.Reader.{Reader}
 use Rattle.line.specs.Line.{places, lineWith, startOf, lineOf, isStarted, allZero, wellFormedAt, wellFormed}
+use Rattle.line.proofs.Wraps.{zeros-are}
 use Rattle.takeover.specs.declared.Kept.{Kept}
 use Rattle.takeover.specs.TakingOver.{keptPlaces, stateOf, wasWellFormed, withMorePlaces, takenOver, refusedFor, takeOver}
 
 -- zeros behind
-zeros-are-zero : (n : ℕ) → allZero (replicate n 0) ≡ true
-zeros-are-zero zero = refl
-zeros-are-zero (suc n) = zeros-are-zero n
-
 zeros-behind : (bytes : List ℕ) (n : ℕ) → allZero (bytes ++ replicate n 0) ≡ allZero bytes
-zeros-behind [] n = zeros-are-zero n
+zeros-behind [] n = zeros-are n
 zeros-behind (byte ∷ bytes) n = ap (_&&_ (eqb byte 0)) (zeros-behind bytes n)
 
 module _ (state : Reader) (size : length (state .held) ≡ keptPlaces) (fits : state .len ≤ keptPlaces) where
