@@ -3,9 +3,6 @@ use Prim.Native.Nat.{ℕ}
 use Rattle.refusals.specs.Refusals.{Outcome, done, refused}
 use Rattle.board.specs.declared.ByteAnswer.{ByteAnswer}
 use Rattle.board.specs.declared.ByteAnswer.the-variants as answer
-use Rattle.board.specs.declared.Parity.{Parity}
-use Rattle.board.specs.declared.of_6038.ParityAnswer.{ParityAnswer}
-use Rattle.board.specs.declared.of_6038.ParityAnswer.the-variants as parity
 use Rattle.board.specs.declared.of_6038.Parameter.{Parameter}
 use Rattle.board.specs.declared.of_6038.ParameterAnswer.{ParameterAnswer}
 use Rattle.board.specs.declared.of_6038.ParameterAnswer.the-variants as parameter
@@ -14,11 +11,6 @@ use Rattle.board.specs.declared.of_6038.ParameterAnswer.the-variants as 
 abbrev pub byteAnswer : ByteAnswer → Outcome ℕ
 byteAnswer (answer.Byte byte) = done byte
 byteAnswer (answer.Refused number) = refused number
-
--- the parity of a 6038's byte
-abbrev pub parityAnswer : ParityAnswer → Outcome Parity
-parityAnswer (parity.Found found) = done found
-parityAnswer (parity.Refused number) = refused number
 
 -- the setting of a 6038's byte
 abbrev pub parameterAnswer : ParameterAnswer → Outcome Parameter

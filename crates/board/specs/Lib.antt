@@ -3,6 +3,7 @@ pub mod Rates
 pub mod Settings
 pub mod Of6036
 pub mod Of6038
+pub mod Parities
 pub mod Answers
 pub mod RoundTrip
 pub mod RoundTrip6038

@@ -17,7 +17,8 @@ use super::row_of;
 use refusals::NOT_OFFERED;
 ghost use mathlib.Core.Path.{_≡_};
 ghost use Rattle.board.specs.Of6038.{parityIn, parameterIn, byteFor};
-ghost use Rattle.board.specs.Answers.{byteAnswer, parityAnswer, parameterAnswer};
+ghost use Rattle.board.specs.Parities.{parityAnswer};
+ghost use Rattle.board.specs.Answers.{byteAnswer, parameterAnswer};
 
 // In which form the board sends, in plain numbers as on the 6036. Whether in UTC this byte does not say: another one of the board's
 // does.

@@ -31,7 +31,8 @@ use Rattle.telegram.specs.declared.write.Choice.{Choice}
 use Rattle.telegram.specs.declared.write.Choice.the-variants.{Named, NamedIn, Unnamed}
 use Rattle.telegram.specs.declared.several.Several.{Several}
 use Rattle.telegram.specs.Reading.{bodyIn, carried, readIn}
-use Rattle.telegram.specs.Writing.{telegramFor, written, severalAfter}
+use Rattle.telegram.specs.SeveralTelegrams.{severalAfter}
+use Rattle.telegram.specs.Writing.{telegramFor, written}
 use Rattle.telegram.proofs.SeveralLaws.{oneMore, ended-before, one-more}
 use Rattle.clock.specs.Stepping.{stepOf}
 use Rattle.clock.specs.Answers.{stepAnswer}

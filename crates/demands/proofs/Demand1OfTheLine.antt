@@ -20,10 +20,12 @@ use Rattle.telegram.specs.Reading.{bodyIn, carried, readIn}
 use Rattle.telegram.proofs.Frames.{frame-is-framed}
 use Rattle.line.specs.declared.Reader.{Reader}
 use Rattle.line.specs.declared.Fed.{Fed}
-use Rattle.line.specs.Line.{places, Line, Told, nothing, event, Feeding, toldBy, toldByEnd, step, startOf, allPlain, isStarted, stopOr, feedOf, lineOf, readerOf, heardFor, fedFor, wellFormed, feedReaderAt, endReaderAt}
+use Rattle.line.specs.Readers.{lineOf, readerOf, fedFor, wellFormed, feedReaderAt, endReaderAt}
+use Rattle.line.specs.Line.{places, Line, Told, nothing, event, Feeding, toldBy, toldByEnd, step, startOf, allPlain, isStarted, stopOr, feedOf, heardFor}
 use Rattle.line.specs.Pieces.{Passing, passOn, passing}
 use Rattle.line.proofs.ReaderLaws.{well, feed-refused, end-refused}
-use Rattle.line.proofs.StaysGood.{Good, started-stays, good-line, good-feed, reader-of-good}
+use Rattle.line.proofs.GoodLines.{Good, started-stays, good-feed}
+use Rattle.line.proofs.StaysGood.{good-line, reader-of-good}
 use Rattle.demands.specs.Numbers.{Rule, _givenWhen_, among, _doneOr_, _silentOr_, EachSilentOr, firstOf}
 use Rattle.demands.specs.Lengths.{sevenLayouts, lengthOf}
 use Rattle.demands.specs.Rules.{recordRules, rulesIn}

@@ -14,8 +14,9 @@ use Rattle.record.specs.declared.Record.the-variants.{Dated, TimeOnly}
 use Rattle.record.specs.declared.RecordAnswer.{RecordAnswer}
 use Rattle.record.specs.declared.RecordAnswer.the-variants as answer
 use Rattle.record.specs.Rule.{refusalOf}
-use Rattle.line.specs.Line.{Line, wellFormed, lineOf}
-use Rattle.line.specs.Cuts.{eventsOf}
+use Rattle.line.specs.Readers.{wellFormed, lineOf}
+use Rattle.line.specs.Line.{Line}
+use Rattle.line.specs.Events.{eventsOf}
 use Rattle.line.proofs.ReaderLaws.{reader-back}
 use Rattle.line.proofs.StaysGood.{good-line}
 use Rattle.listing.specs.Listing.{headerRow, recordRow, refusedRow, eventRow, strayRow}

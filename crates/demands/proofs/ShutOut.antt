@@ -21,8 +21,10 @@ use Rattle.line.specs.declared.Reader.{Reader}
 use Rattle.line.specs.declared.Fed.{Fed}
 use Rattle.line.specs.declared.Heard.{Heard}
 use Rattle.line.specs.declared.Heard.the-variants.{Nothing, Event, Refused}
-use Rattle.line.specs.Line.{lineWith, readerOf, freshReader, wellFormedAt, feedReader, feedReaderAt}
-use Rattle.line.specs.Cuts.{heardThen, feeding, Served, AllUsedUp}
+use Rattle.line.specs.Readers.{readerOf, freshReader, wellFormedAt, feedReader, feedReaderAt}
+use Rattle.line.specs.Line.{lineWith}
+use Rattle.line.specs.Events.{heardThen}
+use Rattle.line.specs.Cuts.{feeding, Served, AllUsedUp}
 use Rattle.line.specs.SentLine.{Sent, bytesSent, eventsSent}
 use Rattle.demands.specs.Demand2.{WritesByTheTables, ReadsByTheTables}
 use Rattle.demands.specs.Demand3.{HandsBackThatList}

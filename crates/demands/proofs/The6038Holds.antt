@@ -27,7 +27,8 @@ use Rattle.trailer.proofs.TrailerLaws.{exchange-last}
 use Rattle.telegram.specs.declared.write.Setting.{Setting}
 use Rattle.telegram.specs.declared.write.Choice.the-variants.{Named, NamedIn}
 use Rattle.telegram.specs.Reading.{bodyRefusal, readBodyAs, readIn, readOf}
-use Rattle.telegram.specs.Writing.{bodyBytes, telegramIn, telegramFor, nextTelegram, withMore, unlessEnded, severalAfter}
+use Rattle.telegram.specs.SeveralTelegrams.{withMore, unlessEnded, severalAfter}
+use Rattle.telegram.specs.Writing.{bodyBytes, telegramIn, telegramFor, nextTelegram}
 use Rattle.telegram.proofs.Frames.{body-of-frame, frame-is-framed}
 use Rattle.telegram.proofs.InOrder.{telegram-seen, read-seen, reads-back}
 use Rattle.leitch.specs.Row.{replyRow}

@@ -34,7 +34,8 @@ use Rattle.trailer.specs.declared.Order.the-variants.{AsPrinted}
 use Rattle.telegram.specs.declared.write.Setting.{Setting}
 use Rattle.telegram.specs.declared.write.Choice.{Choice}
 use Rattle.telegram.specs.declared.write.Choice.the-variants.{Named, NamedIn, Unnamed}
-use Rattle.telegram.specs.Writing.{bodyBytes, telegramIn, telegramOf, as6021, judgedOf, recordBy, recordToWrite, controlOf, orderOf, telegramFor, nextTelegram, telegramsIn, withMore, unlessEnded, severalAfter}
+use Rattle.telegram.specs.SeveralTelegrams.{withMore, unlessEnded, severalAfter}
+use Rattle.telegram.specs.Writing.{bodyBytes, telegramIn, telegramOf, as6021, judgedOf, recordBy, recordToWrite, controlOf, orderOf, telegramFor, nextTelegram, telegramsIn}
 use Rattle.telegram.proofs.WriteLaws.{telegram-refused, telegram-made, was-made}
 use Rattle.telegram.proofs.ReadsBack.{written-is-good}
 use Rattle.telegram.proofs.SeveralLaws.{stood-as, several-stand}

@@ -26,10 +26,11 @@ use Rattle.trailer.specs.declared.Order.{Order}
 use Rattle.telegram.specs.declared.write.Choice.{Choice}
 use Rattle.telegram.specs.declared.several.Several.{Several}
 use Rattle.telegram.specs.Reading.{readIn}
-use Rattle.telegram.specs.Writing.{telegramFor, written, severalAfter}
+use Rattle.telegram.specs.SeveralTelegrams.{severalAfter}
+use Rattle.telegram.specs.Writing.{telegramFor, written}
 use Rattle.line.specs.declared.Reader.{Reader}
 use Rattle.line.specs.declared.Heard.the-variants.{Refused}
-use Rattle.line.specs.Line.{wellFormed, AsDeclared, feedReader, endReader}
+use Rattle.line.specs.Readers.{wellFormed, AsDeclared, feedReader, endReader}
 use Rattle.line.specs.Pieces.{passing}
 use Rattle.line.specs.Pieces as pieces
 use Rattle.clock.specs.declared.Clock.{Clock}

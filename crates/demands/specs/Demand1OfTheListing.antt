@@ -14,8 +14,8 @@ use Rattle.record.specs.declared.RecordAnswer.the-variants as answer
 use Rattle.line.specs.declared.Reader.{Reader}
 use Rattle.line.specs.declared.Heard.{Heard}
 use Rattle.line.specs.declared.Heard.the-variants.{Nothing, Event, Refused}
-use Rattle.line.specs.Line.{wellFormed, lineOf, AsDeclared}
-use Rattle.line.specs.Cuts.{eventsOf}
+use Rattle.line.specs.Readers.{wellFormed, lineOf, AsDeclared}
+use Rattle.line.specs.Events.{eventsOf}
 use Rattle.listing.specs.Listing.{headerRow, recordRow, refusedRow, eventRow, strayRow}
 use Rattle.pages.specs.Pages.{rowFor, stopped, pageOf}
 use Rattle.pages.specs.Whole.{rowsOf}

@@ -10,10 +10,10 @@ use Rattle.line.specs.declared.Reader.{Reader}
 use Rattle.line.specs.declared.Fed.{Fed}
 use Rattle.line.specs.declared.Heard.{Heard}
 use Rattle.line.specs.declared.Heard.the-variants.{Nothing}
-use Rattle.line.specs.Line.{freshIn, endReader}
+use Rattle.line.specs.Readers.{freshIn, endReader}
 use Rattle.line.specs.Cuts.{Calls, feeding, Served, bytesServed, heardOf, readerBehind, AllUsedUp, serve}
 use Rattle.line.specs.Pieces.{usingUp}
-use Rattle.line.specs.Sentences.{SameByAnyCut, UsesUpAnyCut}
+use Rattle.line.specs.ReaderSentences.{SameByAnyCut, UsesUpAnyCut}
 use Rattle.line.specs.SentLine.{Sent, bytesSent, noStx, eventsSent, straySent}
 use Rattle.demands.specs.Programs.{feeds}
 

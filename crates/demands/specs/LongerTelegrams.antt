@@ -7,9 +7,11 @@ use Prim.Native.Nat.{ℕ, _+_, _<_}
 use lib.ListN.{length}
 use Rattle.refusals.specs.Refusals.{refused}
 use Rattle.trailer.specs.declared.Order.{Order}
-use Rattle.line.specs.Line.{Line, lineWith, event, toldByAt, lineOf}
-use Rattle.line.specs.Cuts.{eventsAt, lineAfterAt, eventsOf, lineAfter}
-use Rattle.line.specs.LongerTelegrams.{UpTo38BytesAreHeld, StxCutsOffUpTo38, TheEndCutsOffUpTo38, TenIsGivenWhen38AreHeld, UpTo39BytesAreJudged, TheRuleIsTheOneAt38}
+use Rattle.line.specs.Readers.{lineOf}
+use Rattle.line.specs.Line.{Line, lineWith, event, toldByAt}
+use Rattle.line.specs.Events.{eventsAt, lineAfterAt, eventsOf, lineAfter}
+use Rattle.line.specs.LongerReaders.{TheEndCutsOffUpTo38, TheRuleIsTheOneAt38}
+use Rattle.line.specs.LongerTelegrams.{UpTo38BytesAreHeld, StxCutsOffUpTo38, TenIsGivenWhen38AreHeld, UpTo39BytesAreJudged}
 use Rattle.takeover.specs.declared.Kept.{Kept}
 use Rattle.takeover.specs.TakingOver.{keptPlaces, wasWellFormed, AsKept}
 use Rattle.takeover.specs.Sentences.{readerFor, lineKept, noTen, TheOldBoundIs24, RefusesWhatTheOldRuleRefused, WhatTheOldReaderLeftIsTakenOver, ARefusedStateComesBackUnchanged, MoreHeldThanThereWerePlacesIs15, WhatIsTakenOverIsTheSame, WhatIsTakenOverIsWellFormed, WithoutATenNothingDiffers, ACallWithoutATenIsTheSame, TheEndIsTheSame, WithoutATenEachCutIsTheSame}

@@ -11,7 +11,7 @@ use Rattle.telegram.specs.Reading.{readIn}
 use Rattle.telegram.specs.Writing.{written}
 use Rattle.line.specs.declared.Reader.{Reader}
 use Rattle.line.specs.declared.Fed.{Fed}
-use Rattle.line.specs.Line.{feedReader}
+use Rattle.line.specs.Readers.{feedReader}
 
 -- one telegram read, in an order of the trailer, with or without control characters
 abbrev pub reads : Order → Bool → List ℕ → Outcome Record

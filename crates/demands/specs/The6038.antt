@@ -25,11 +25,12 @@ use Rattle.telegram.specs.declared.write.Setting.{Setting}
 use Rattle.telegram.specs.declared.write.Choice.the-variants.{Named, NamedIn}
 use Rattle.telegram.specs.declared.several.Several.{Several}
 use Rattle.telegram.specs.Reading.{readOf}
-use Rattle.telegram.specs.Writing.{telegramIn, severalAfter}
+use Rattle.telegram.specs.SeveralTelegrams.{severalAfter}
+use Rattle.telegram.specs.Writing.{telegramIn}
 use Rattle.leitch.specs.declared.Reply.{Reply}
 use Rattle.leitch.specs.Writing.{replyBytes}
-use Rattle.line.specs.Line.{freshIn, freshReader}
-use Rattle.line.specs.Sentences.{EveryOrderIsWellFormed, TheOrderStays}
+use Rattle.line.specs.Readers.{freshIn, freshReader}
+use Rattle.line.specs.ReaderSentences.{EveryOrderIsWellFormed, TheOrderStays}
 use Rattle.line.specs.SentLine.{Sent, bytesSent}
 use Rattle.pages.specs.Whole.{listingIn, listingOf}
 use Rattle.demands.specs.Programs.{reads, writes}

@@ -28,7 +28,8 @@ use Rattle.trailer.specs.declared.Order.the-variants.{AsPrinted}
 use Rattle.telegram.specs.declared.write.Choice.{Choice}
 use Rattle.telegram.specs.declared.write.Choice.the-variants.{Named, Unnamed}
 use Rattle.telegram.specs.declared.several.Several.{Several}
-use Rattle.telegram.specs.Writing.{telegramIn, telegramOf, as6021, judgedOf, telegramFor, noneYet, withMore, unlessEnded, severalAfter, severalAll}
+use Rattle.telegram.specs.SeveralTelegrams.{noneYet, withMore, unlessEnded, severalAfter, severalAll}
+use Rattle.telegram.specs.Writing.{telegramIn, telegramOf, as6021, judgedOf, telegramFor}
 use Rattle.line.specs.declared.Reader.{Reader}
 use Rattle.line.specs.declared.Heard.{Heard}
 use Rattle.line.specs.declared.Heard.the-variants.{Event}

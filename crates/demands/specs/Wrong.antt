@@ -16,7 +16,7 @@ use Rattle.line.specs.declared.Reader.{Reader}
 use Rattle.line.specs.declared.Fed.{Fed}
 use Rattle.line.specs.declared.Heard.{Heard}
 use Rattle.line.specs.declared.Heard.the-variants.{Nothing, Event, Refused}
-use Rattle.line.specs.Line.{readerWith, feedReader}
+use Rattle.line.specs.Readers.{readerWith, feedReader}
 
 -- "a reader that refuses everything": one telegram, and on the line
 abbrev pub refusingReader : Order → Bool → List ℕ → Outcome Record

@@ -1,8 +1,8 @@
 -- The account: every byte fed is in an event, stray, or held. Assumes nothing.
-use mathlib.Core.Path.{_≡_, refl, ap, sym, _∙_}
+use mathlib.Core.Path.{_≡_, refl, ap, _∙_}
 use mathlib.Core.Bool.{Bool, true, false, cond}
 use mathlib.Core.List.{List, [], _∷_, _++_}
-use Prim.Native.Nat.{ℕ, _+_, _%_, _^_, _≤_}
+use Prim.Native.Nat.{ℕ, _+_, _≤_}
 use native.Mathlib.Nat.{zero-add}
 use native.Mathlib.Omega.{arith}
 use lib.Dec.{eqb, leb}
@@ -12,12 +12,11 @@ use Rattle.refusals.specs.Refusals.{refused}
 use Rattle.ascii.specs.Control.{stx, etx}
 use Rattle.trailer.specs.declared.Order.{Order}
 use Rattle.line.specs.declared.Heard.{Heard}
-use Rattle.line.specs.Line.{places, judgement, Line, Told, nothing, event, heldAfter, toldBy, strayBy, step, startOf, freshLine, freshIn, toldByEnd, heardFor, feedReader, endReader}
-use Rattle.line.specs.Cuts.{tells, eventsOf, lineAfter, heardThen, feeding, bytesServed}
+use Rattle.line.specs.Line.{places, judgement, Line, Told, nothing, event, heldAfter, toldBy, strayBy, step, startOf, freshLine, toldByEnd, heardFor}
+use Rattle.line.specs.Events.{tells, eventsOf, lineAfter, heardThen}
 use Rattle.line.specs.Account.{eventSize, lengthsOf, straysOf, sizesOf}
-use Rattle.line.specs.Sentences.{TheAccountHolds, TheAccountHoldsAfterTheEnd}
-use Rattle.line.proofs.StaysGood.{Good, good-step, end-good}
-use Rattle.line.proofs.CutLaws.{good-fresh, good-after, feeding-splits, cut-anywhere}
+use Rattle.line.proofs.GoodLines.{Good, good-step}
+use Rattle.line.proofs.EventLaws.{good-fresh}
 
 -- one byte
 begins : (is-stx : Bool) → 0 + 1 ≡ 0 + cond is-stx 0 1 + length (cond {A = List ℕ} is-stx (stx ∷ []) [])
@@ -66,42 +65,15 @@ heard-sizes line (byte ∷ bytes) =
 
 -- from a fresh reader on, after any bytes
 module _ (order : Order) (bytes : List ℕ) where
-  abbrev line : Line
+  abbrev pub line : Line
   line = lineAfter (freshLine order) bytes
 
-  stray-is : line .stray ≡ straysOf (freshLine order) bytes
+  pub stray-is : line .stray ≡ straysOf (freshLine order) bytes
   stray-is = stray-counts (freshLine order) bytes ∙ zero-add (straysOf (freshLine order) bytes)
 
-  sum : line .fed ≡ lengthsOf (freshLine order) bytes + straysOf (freshLine order) bytes + length (line .held)
+  pub sum : line .fed ≡ lengthsOf (freshLine order) bytes + straysOf (freshLine order) bytes + length (line .held)
   sum = fed-counts (freshLine order) bytes ∙ account (freshLine order) bytes (good-fresh order)
 
--- and so of the reader that any caller's loop leaves
-pub the-account-holds : TheAccountHolds
-the-account-holds order served used =
-    let bytes = bytesServed served in
-    let told = cut-anywhere (feeding feedReader) feeding-splits served (freshLine order) (freshIn order) (good-fresh order) refl used in (
-      ap (λ reader. reader .fed) (told .1)
-          ∙ ap (λ n. n % 2 ^ 32) (sum order bytes)
-          ∙ ap (λ len. (lengthsOf (freshLine order) bytes + straysOf (freshLine order) bytes + len) % 2 ^ 32) (sym (ap (λ reader. reader .len) (told .1))),
-      ap sizesOf (told .0) ∙ heard-sizes (freshLine order) bytes,
-      ap (λ reader. reader .stray) (told .1) ∙ ap (λ n. n % 2 ^ 32) (stray-is order bytes),
-    )
-
-end-size : (held : List ℕ) (start : ℕ) → length held ≡ sizesOf (heardThen (heardFor (toldByEnd held) start) [])
+pub end-size : (held : List ℕ) (start : ℕ) → length held ≡ sizesOf (heardThen (heardFor (toldByEnd held) start) [])
 end-size [] start = refl
 end-size (first ∷ held) start = omega arith
-
-pub the-account-holds-after-the-end : TheAccountHoldsAfterTheEnd
-the-account-holds-after-the-end order served used =
-    let bytes = bytesServed served in
-    let line = lineAfter (freshLine order) bytes in
-    let told = cut-anywhere (feeding feedReader) feeding-splits served (freshLine order) (freshIn order) (good-fresh order) refl used in
-    let ended-so = ap endReader (told .1) ∙ end-good line (good-after (freshLine order) bytes (good-fresh order)) in
-    let moved : lengthsOf (freshLine order) bytes + straysOf (freshLine order) bytes + length (line .held)
-    ≡ lengthsOf (freshLine order) bytes + sizesOf (heardThen (heardFor (toldByEnd (line .held)) (startOf line)) []) + straysOf (freshLine order) bytes =
-    omega (arith, end-size (line .held) (startOf line)) in (
-      ap (λ ended. ended .reader .fed) ended-so
-          ∙ ap (λ n. n % 2 ^ 32) (sum order bytes ∙ moved)
-          ∙ ap (λ ended. (lengthsOf (freshLine order) bytes + sizesOf (heardThen (ended .heard) []) + straysOf (freshLine order) bytes) % 2 ^ 32) (sym ended-so),
-      ap (λ ended. ended .reader .stray) ended-so ∙ ap (λ n. n % 2 ^ 32) (stray-is order bytes),
-    )

@@ -2,41 +2,20 @@
 -- It is proved of any call that splits what a piece tells, and so of `feed` and `use_up`. Assumes nothing.
 use mathlib.Core.Path.{_≡_, refl, ap, ap₂, sym, _∙_, subst, subst⁻¹}
 use mathlib.Core.List.{List, [], _∷_, _++_, map, append-nil, append-assoc}
-use Prim.Native.Nat.{ℕ, zero, suc, _+_, _-_, _≤_, _<_}
+use Prim.Native.Nat.{ℕ, zero, suc, _-_, _≤_, _<_}
 use Prim.{tt}
-use native.Mathlib.Numerals.{add-one}
 use native.Mathlib.Omega.{arith}
-use lib.ListN.{length, drop, length-drop}
-use Rattle.trailer.specs.declared.Order.{Order}
+use lib.ListN.{length, drop}
 use Rattle.line.specs.declared.Reader.{Reader}
-use Rattle.line.specs.declared.Heard.{Heard}
-use Rattle.line.specs.Line.{places, Line, Told, nothing, event, Feeding, stopOr, feedOf, toldBy, step, startOf, readerOf, lineOf, heardFor, fedFor, freshLine, feedReader}
-use Rattle.line.specs.Cuts.{tells, eventsOf, lineAfter, Calls, heardThen, calledFor, feeding, callsThen, callsOf, Served, bytesServed, heardOf, readerBehind, AllUsedUp, serve}
-use Rattle.line.specs.Sentences.{TakesSome, UsesUpAnyCut, TellsTheLine, FeedingTellsTheLine, SameByAnyCut, CutIndependence}
+use Rattle.line.specs.Readers.{readerOf, lineOf, fedFor, feedReader}
+use Rattle.line.specs.Line.{Line, feedOf}
+use Rattle.line.specs.Events.{eventsOf, lineAfter}
+use Rattle.line.specs.Cuts.{Calls, calledFor, feeding, callsThen, callsOf, Served, bytesServed, heardOf, readerBehind, AllUsedUp, serve}
+use Rattle.line.specs.ReaderSentences.{TakesSome, UsesUpAnyCut, TellsTheLine, FeedingTellsTheLine, SameByAnyCut, CutIndependence}
 use Rattle.line.proofs.ReaderLaws.{reader-back}
-use Rattle.line.proofs.StaysGood.{Good, good-after-at, good-feed, good-line, feed-good}
-
--- a fresh reader
-pub good-fresh : (order : Order) → Good (freshLine order)
-good-fresh order = record { fits = omega arith; started = refl }
-
--- one piece behind another
-tells-on : (told : Told) (start : ℕ) (events more : List Heard) → tells told start (events ++ more) ≡ tells told start events ++ more
-tells-on nothing start events more = refl
-tells-on (event outcome size) start events more = refl
-
-pub events-join : (line : Line) (piece others : List ℕ) → eventsOf line (piece ++ others) ≡ eventsOf line piece ++ eventsOf (lineAfter line piece) others
-events-join line [] others = refl
-events-join line (byte ∷ piece) others =
-    ap (tells (toldBy (line .order) (line .held) byte) (startOf line)) (events-join (step line byte) piece others)
-    ∙ tells-on (toldBy (line .order) (line .held) byte) (startOf line) (eventsOf (step line byte) piece) (eventsOf (lineAfter (step line byte) piece) others)
-
-pub after-join : (line : Line) (piece others : List ℕ) → lineAfter line (piece ++ others) ≡ lineAfter (lineAfter line piece) others
-after-join line [] others = refl
-after-join line (byte ∷ piece) others = after-join (step line byte) piece others
-
-pub good-after : (line : Line) (piece : List ℕ) → Good line → Good (lineAfter line piece)
-good-after = good-after-at places (omega arith)
+use Rattle.line.proofs.GoodLines.{Good, good-feed}
+use Rattle.line.proofs.StaysGood.{good-line, feed-good}
+use Rattle.line.proofs.EventLaws.{after-join, events-join, feed-parts, good-after, shorter}
 
 -- calls on a piece split what it tells into what was heard and what the rest tells
 pub record Splits (line : Line) (piece : List ℕ) (called : Calls) : Type 0 where
@@ -65,22 +44,6 @@ pub record Splitting (call : Reader → List ℕ → Calls) : Type 0 where
   pub splits : (line : Line) → Good line → (piece : List ℕ) → Splits line piece (call (readerOf line) piece)
   pub less : (line : Line) → Good line → (piece : List ℕ) (n : ℕ) → length piece ≤ suc n → length (call (readerOf line) piece .rest) ≤ n
 
--- feed is such a call
-abbrev pub Parts : List Heard → Line → Feeding → List ℕ → Type 0
-Parts events after feeding rest =
-    (events ≡ heardThen (heardFor (feeding .told) (feeding .at)) [] ++ eventsOf (feeding .line) rest) × (after ≡ lineAfter (feeding .line) rest)
-
-parts-by : (told : Told) (start byte : ℕ) (next : Line) (on : Feeding) (piece : List ℕ)
-    → Parts (eventsOf next piece) (lineAfter next piece) on (drop (on .taken) piece)
-    → Parts (tells told start (eventsOf next piece)) (lineAfter next piece) (stopOr told start next on) (drop (stopOr told start next on .taken) (byte ∷ piece))
-parts-by nothing start byte next on piece h = rw (add-one (on .taken)) h
-parts-by (event outcome size) start byte next on piece h = (refl, refl)
-
-pub feed-parts : (line : Line) (piece : List ℕ) → Parts (eventsOf line piece) (lineAfter line piece) (feedOf line piece) (drop (feedOf line piece .taken) piece)
-feed-parts line [] = (refl, refl)
-feed-parts line (byte ∷ piece) =
-    parts-by (toldBy (line .order) (line .held) byte) (startOf line) byte (step line byte) (feedOf (step line byte) piece) piece (feed-parts (step line byte) piece)
-
 abbrev pub feed-splits : (line : Line) → Good line → (piece : List ℕ) → Splits line piece (calledFor (fedFor (feedOf line piece)) piece)
 feed-splits line good piece =
     record {
@@ -90,19 +53,6 @@ feed-splits line good piece =
       events = feed-parts line piece .0;
       after = feed-parts line piece .1;
     }
-
-pub some-by : (told : Told) (start : ℕ) (next : Line) (on : Feeding) → 0 < stopOr told start next on .taken
-some-by nothing start next on = omega arith
-some-by (event outcome size) start next on = omega arith
-
-pub shorter : (line : Line) (piece : List ℕ) (n : ℕ) → length piece ≤ suc n → length (drop (feedOf line piece .taken) piece) ≤ n
-shorter line [] n h = omega arith
-shorter line (byte ∷ piece) n h =
-    omega (
-      arith,
-      length-drop (feedOf line (byte ∷ piece) .taken) (byte ∷ piece),
-      some-by (toldBy (line .order) (line .held) byte) (startOf line) (step line byte) (feedOf (step line byte) piece),
-    )
 
 pub feeding-splits : Splitting (feeding feedReader)
 feeding-splits =

@@ -18,7 +18,8 @@ use Rattle.ascii.specs.Control.{stx, etx}
 use Rattle.trailer.specs.declared.Order.{Order}
 use Rattle.line.specs.declared.Reader.{Reader}
 use Rattle.line.specs.declared.Heard.the-variants.{Nothing, Event}
-use Rattle.line.specs.Line.{places, judgement, Line, lineWith, readerWith, isPlain, event, Feeding, feedOf, startOf, readerOf, lineOf, wellFormed, answerFor, fedFor, feedReader, feedReaderAt}
+use Rattle.line.specs.Readers.{readerWith, readerOf, lineOf, wellFormed, fedFor, feedReader, feedReaderAt}
+use Rattle.line.specs.Line.{places, judgement, Line, lineWith, isPlain, event, Feeding, feedOf, startOf, answerFor}
 use Rattle.line.specs.Runs.{roomyRun}
 use Rattle.line.proofs.Forms.{taken-length, start-stays, padding}
 use Rattle.line.proofs.RunLaws.{Within, run-within, run-ends}

@@ -1,30 +1,29 @@
 -- Document 02, g, holds of the reader's bound. Assumes nothing.
-use mathlib.Core.Path.{_≡_, refl, ap, ap₂, _∙_}
+use mathlib.Core.Path.{_≡_, ap, ap₂, _∙_}
 use mathlib.Core.Bool.{true, not}
 use mathlib.Core.List.{List, [], _∷_, _++_}
 use Prim.Native.Nat.{ℕ, suc, _+_, _-_, _%_, _^_, _≤_}
 use native.Mathlib.Omega.{arith}
 use lib.Dec.{eqb}
 use lib.ListN.{length}
-use borrow.Author.Tests.{not-true, le-leb, lt-leb}
+use borrow.Author.Tests.{not-true, le-leb}
 use Rattle.refusals.proofs.Laws.{both}
 use Rattle.record.specs.declared.RecordAnswer.the-variants as answer
 use Rattle.trailer.specs.declared.Order.{Order}
 use Rattle.telegram.specs.Reading.{readIn}
 use Rattle.ascii.specs.Control.{stx, etx}
 use Rattle.line.specs.declared.Heard.the-variants.{Event}
-use Rattle.line.specs.Line.{places, Line, lineWith, freshLine, allPlain, wellFormedAt, answerFor, startOf, toldByEnd, heardFor}
-use Rattle.line.specs.Cuts.{eventsOf, lineAfter}
-use Rattle.line.specs.LongerTelegrams.{UpTo38BytesAreHeld, StxCutsOffUpTo38, TheEndCutsOffUpTo38, TenIsGivenWhen38AreHeld, UpTo39BytesAreJudged, TheRuleIsTheOneAt38}
-use Rattle.line.proofs.StaysGood.{end-good}
-use Rattle.line.proofs.CutLaws.{good-fresh, events-join, after-join, good-after}
+use Rattle.line.specs.Line.{places, Line, lineWith, freshLine, allPlain, answerFor}
+use Rattle.line.specs.Events.{eventsOf, lineAfter}
+use Rattle.line.specs.LongerTelegrams.{UpTo38BytesAreHeld, StxCutsOffUpTo38, TenIsGivenWhen38AreHeld, UpTo39BytesAreJudged}
+use Rattle.line.proofs.EventLaws.{events-join, after-join}
 use Rattle.line.proofs.SentLaws.{plain-gives}
 
 module _ (order : Order) (body : List ℕ) (plain : allPlain body ≡ true) (room : length body ≤ 37) where
-  abbrev held : Line
+  abbrev pub held : Line
   held = lineWith (stx ∷ body) (1 + length body) 0 order
 
-  gives : (eventsOf (freshLine order) (stx ∷ body) ≡ []) × (lineAfter (freshLine order) (stx ∷ body) ≡ held)
+  pub gives : (eventsOf (freshLine order) (stx ∷ body) ≡ []) × (lineAfter (freshLine order) (stx ∷ body) ≡ held)
   gives = plain-gives order stx [] 1 0 body plain (omega arith)
 
   -- and with one byte more
@@ -39,7 +38,7 @@ module _ (order : Order) (body : List ℕ) (plain : allPlain body ≡ true) (roo
 pub up-to-38-bytes-are-held : UpTo38BytesAreHeld
 up-to-38-bytes-are-held order body plain room = (gives order body plain room .0, ap (λ line. line .held) (gives order body plain room .1))
 
-begins-at-0 : (n : ℕ) → n ≤ 37 → (1 + n + (2 ^ 32 - suc n)) % 2 ^ 32 ≡ 0
+pub begins-at-0 : (n : ℕ) → n ≤ 37 → (1 + n + (2 ^ 32 - suc n)) % 2 ^ 32 ≡ 0
 begins-at-0 n fits = omega arith
 
 pub stx-cuts-off-up-to-38 : StxCutsOffUpTo38
@@ -49,14 +48,6 @@ stx-cuts-off-up-to-38 order body plain room =
           ∙ ap₂ (λ start size. Event (answer.Refused 9) start size ∷ []) (begins-at-0 (length body) room) size,
       ap (λ line. line .held) (then-is order body plain room stx),
     )
-
-pub the-end-cuts-off-up-to-38 : TheEndCutsOffUpTo38
-the-end-cuts-off-up-to-38 order body plain room =
-    let size : suc (length body) ≡ length body + 1 = omega arith in
-    let good = good-after (freshLine order) (stx ∷ body) (good-fresh order) in
-    ap (λ ended. ended .heard) (end-good (lineAfter (freshLine order) (stx ∷ body)) good)
-    ∙ ap (λ line. heardFor (toldByEnd (line .held)) (startOf line)) (gives order body plain room .1)
-    ∙ ap₂ (λ start size. Event (answer.Refused 11) start size) (begins-at-0 (length body) room) size
 
 pub ten-is-given-when-38-are-held : TenIsGivenWhen38AreHeld
 ten-is-given-when-38-are-held order body byte plain full other =
@@ -75,7 +66,3 @@ up-to-39-bytes-are-judged order body plain room =
     let size : suc (length body) + 1 ≡ length body + 2 = omega arith in
     then-tells order body plain room etx
     ∙ ap₂ (λ start size. Event (answerFor (readIn order true (stx ∷ body ++ etx ∷ []))) start size ∷ []) (begins-at-0 (length body) room) size
-
-pub the-rule-is-the-one-at-38 : TheRuleIsTheOneAt38
-unfolding wellFormedAt
-the-rule-is-the-one-at-38 reader = (refl, λ more. rw (lt-leb (reader .len) places more))

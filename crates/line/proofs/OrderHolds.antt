@@ -1,7 +1,7 @@
 -- The order is a setting of the line: every one is well formed, and no call changes it. Assumes nothing.
 use mathlib.Core.Path.{_≡_, refl, _∙_}
 use mathlib.Core.Bool.{Bool, true, false, cond}
-use mathlib.Core.List.{List, [], _∷_}
+use mathlib.Core.List.{List}
 use Prim.Native.Nat.{ℕ, zero, suc}
 use lib.ListN.{drop}
 use Rattle.trailer.specs.declared.Order.{Order}
@@ -10,9 +10,11 @@ use Rattle.line.specs.declared.Heard.the-variants.{Nothing, Event, Refus
 use Rattle.line.specs.declared.Fed.{Fed}
 use Rattle.line.specs.declared.Ended.{Ended}
 use Rattle.line.specs.declared.Reader.{Reader}
-use Rattle.line.specs.Line.{Line, Told, nothing, event, Feeding, stopOr, feedOf, toldBy, step, startOf, ended, toldByEnd, readerOf, lineOf, heardFor, fedFor, wellFormed, wellFormedAt, feedReader, feedReaderAt, endReader, endReaderAt}
+use Rattle.line.specs.Readers.{readerOf, lineOf, fedFor, wellFormed, wellFormedAt, feedReader, feedReaderAt, endReader, endReaderAt}
+use Rattle.line.specs.Line.{feedOf, ended, toldByEnd, heardFor}
 use Rattle.line.specs.Pieces.{Passing, passOn, passing}
-use Rattle.line.specs.Sentences.{AFreshOneIsAsPrintedIfNotNamed, EveryOrderIsWellFormed, TheOrderStays}
+use Rattle.line.specs.ReaderSentences.{AFreshOneIsAsPrintedIfNotNamed, EveryOrderIsWellFormed, TheOrderStays}
+use Rattle.line.proofs.OrderStays.{line-stays}
 
 pub a-fresh-one-is-as-printed : AFreshOneIsAsPrintedIfNotNamed
 a-fresh-one-is-as-printed = refl
@@ -20,16 +22,6 @@ a-fresh-one-is-as-printed = refl
 pub every-order-is-well-formed : EveryOrderIsWellFormed
 unfolding wellFormedAt
 every-order-is-well-formed reader order = refl
-
--- no byte changes it
-stays-by : (told : Told) (start : ℕ) (next : Line) (on : Feeding) → on .line .order ≡ next .order → stopOr told start next on .line .order ≡ next .order
-stays-by nothing start next on later = later
-stays-by (event outcome size) start next on later = refl
-
-line-stays : (line : Line) (piece : List ℕ) → feedOf line piece .line .order ≡ line .order
-line-stays line [] = refl
-line-stays line (byte ∷ piece) =
-    stays-by (toldBy (line .order) (line .held) byte) (startOf line) (step line byte) (feedOf (step line byte) piece) (line-stays (step line byte) piece)
 
 feed-stays : (reader : Reader) (piece : List ℕ) → feedReader reader piece .reader .order ≡ reader .order
 unfolding feedReaderAt

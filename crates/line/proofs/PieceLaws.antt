@@ -15,9 +15,10 @@ use Rattle.line.specs.declared.Heard.{Heard}
 use Rattle.line.specs.declared.Heard.the-variants.{Nothing, Event, Refused}
 use Rattle.line.specs.declared.pieces.Slot.{Slot}
 use Rattle.line.specs.declared.pieces.Passed.{Passed}
-use Rattle.line.specs.Line.{wellFormed, fedFor, feedOf, lineOf, feedReader, feedReaderAt}
+use Rattle.line.specs.Readers.{wellFormed, fedFor, lineOf, feedReader, feedReaderAt}
+use Rattle.line.specs.Line.{feedOf}
 use Rattle.line.specs.Pieces.{room, Passing, passOn, passing, slotOf, passedFor}
-use Rattle.line.proofs.Wraps.{taken-fits}
+use Rattle.line.proofs.EventLaws.{taken-fits}
 
 -- a call takes no more than there is, whatever the reader
 taken-by : (reader : Reader) (piece : List ℕ) (good : Bool)

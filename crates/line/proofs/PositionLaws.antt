@@ -10,9 +10,9 @@ use lib.Seq.{drop-append-seam}
 use borrow.Author.Tests.{eqb-true}
 use Rattle.ascii.specs.Control.{stx, etx}
 use Rattle.line.specs.Line.{places, Line, heldAfter, step, freshLine}
-use Rattle.line.specs.Cuts.{lineAfter}
+use Rattle.line.specs.Events.{lineAfter}
 use Rattle.line.specs.Sentences.{TheStartIsWhereTheHeldBegin}
-use Rattle.line.proofs.CutLaws.{good-fresh, good-after}
+use Rattle.line.proofs.EventLaws.{good-fresh, good-after}
 use Rattle.line.proofs.AccountLaws.{fed-counts}
 
 -- bytes that end with those held

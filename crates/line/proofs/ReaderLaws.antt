@@ -13,7 +13,8 @@ use Rattle.refusals.proofs.Laws.{both}
 use Rattle.record.specs.declared.RecordAnswer.the-variants as answer
 use Rattle.line.specs.declared.Reader.{Reader}
 use Rattle.line.specs.declared.Heard.the-variants.{Nothing, Event, Refused}
-use Rattle.line.specs.Line.{places, lineWith, readerWith, event, toldByEnd, startOf, readerOf, lineOf, isStarted, allZero, wellFormed, wellFormedAt, feedReader, feedReaderAt, endReader, endReaderAt}
+use Rattle.line.specs.Readers.{readerWith, readerOf, lineOf, allZero, wellFormed, wellFormedAt, feedReader, feedReaderAt, endReader, endReaderAt}
+use Rattle.line.specs.Line.{places, lineWith, event, toldByEnd, startOf, isStarted}
 use Rattle.line.proofs.Forms.{taken-length, padding}
 
 pub record Well (reader : Reader) : Type 0 where

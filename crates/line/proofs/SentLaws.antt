@@ -24,7 +24,7 @@ use Rattle.telegram.specs.Writing.{bodyBytes}
 use Rattle.ascii.specs.Control.{stx, etx}
 use Rattle.line.specs.declared.Heard.{Heard}
 use Rattle.line.specs.Line.{places, lineWith, Line, isPlain, allPlain}
-use Rattle.line.specs.Cuts.{eventsOf, lineAfter}
+use Rattle.line.specs.Events.{eventsOf, lineAfter}
 use Rattle.line.specs.SentLine.{noStx}
 use Rattle.line.proofs.FeedLaws.{outside}
 

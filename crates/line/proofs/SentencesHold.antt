@@ -1,4 +1,5 @@
--- Document 01's sentences on the line hold, but for the account (AccountLaws) and the cuts (CutLaws, UsesUp). Assumes nothing.
+-- Document 01's sentences on the line hold, but for the account (AccountLaws), the positions (PositionLaws) and the order (OrderStays).
+-- Assumes nothing.
 use mathlib.Core.Path.{_≡_, refl, ap, sym, _∙_}
 use mathlib.Core.List.{List, [], _∷_}
 use Prim.Native.Nat.{ℕ, zero, suc, _+_, _-_, _≤_}
@@ -7,27 +8,10 @@ use native.Mathlib.Omega.{arith}
 use lib.ListN.{length, take}
 use Rattle.line.specs.declared.Heard.{Heard}
 use Rattle.line.specs.declared.Heard.the-variants.{Nothing}
-use Rattle.line.specs.Line.{Line, Told, nothing, event, Feeding, stopOr, feedOf, toldBy, step, startOf, readerOf, lineOf, freshLine, heardFor, wellFormed, feedReaderAt, endReaderAt}
-use Rattle.line.specs.Cuts.{tells, eventsOf, heardThen}
-use Rattle.line.specs.Pieces.{room, passing}
-use Rattle.line.specs.Sentences.{AFreshOneHoldsNone, AGoodStateStaysGood, OneByteGivesAtMostOneEvent, ACallStopsAfterTheFirstEvent, AnEmptyPieceGivesNothing, TheEndLeavesItOutside}
-use Rattle.line.proofs.ReaderLaws.{reader-back}
-use Rattle.line.proofs.StaysGood.{good-line, reader-of-good, feed-stays-good, end-stays-good}
-use Rattle.line.proofs.CutLaws.{good-fresh}
-use Rattle.line.proofs.UsesUp.{taken-line, passing-splits}
-
-pub a-fresh-one-holds-none : AFreshOneHoldsNone
-a-fresh-one-holds-none order = (reader-of-good (freshLine order) (good-fresh order), refl, refl, refl, refl, refl)
-
-pub a-good-state-stays-good : AGoodStateStaysGood
-a-good-state-stays-good reader piece declared well =
-    let line = lineOf reader in
-    let split = passing-splits room line (good-line reader (declared .0) well) piece in
-    let is = reader-back reader well (declared .0) (declared .1) (declared .2) in (
-      feed-stays-good reader (declared .0) well piece,
-      ap (λ r. wellFormed (passing room r piece .reader)) (sym is) ∙ ap wellFormed (split .reader) ∙ reader-of-good (split .left) (split .good),
-      end-stays-good reader (declared .0) well,
-    )
+use Rattle.refusals.specs.Refusals.{refused}
+use Rattle.line.specs.Line.{Line, Told, nothing, event, Feeding, stopOr, feedOf, toldBy, step, startOf, heardFor}
+use Rattle.line.specs.Events.{tells, eventsOf, heardThen}
+use Rattle.line.specs.Sentences.{OneByteGivesAtMostOneEvent, TheEndGives11, TheEndKeepsTheCounts}
 
 -- at most one event a byte
 one-by : (told : Told) (start : ℕ) (later : List Heard) (n : ℕ) → length later ≤ n → length (tells told start later) ≤ suc n
@@ -57,22 +41,13 @@ stops-by line byte piece nothing on e (heard, before, all) = (rw (add-one (on .t
         rw (is, e) (ap (λ k. eventsOf (step line byte) (take k piece)) less ∙ before)
 stops-by line byte piece (event outcome size) on e h = (rw e, refl, λ silent. let z : _≡_ {A = ℕ} 0 1 = cc in absurd (omega arith))
 
-feed-stops : (line : Line) (piece : List ℕ) → Stops line piece (feedOf line piece)
+pub feed-stops : (line : Line) (piece : List ℕ) → Stops line piece (feedOf line piece)
 feed-stops line [] = (refl, refl, λ silent. refl)
 feed-stops line (byte ∷ piece) = stops-by line byte piece (toldBy (line .order) (line .held) byte) (feedOf (step line byte) piece) refl (feed-stops (step line byte) piece)
 
-pub a-call-stops-after-the-first-event : ACallStopsAfterTheFirstEvent
-unfolding feedReaderAt
-a-call-stops-after-the-first-event reader piece declared well =
-    let stops = feed-stops (lineOf reader) piece in
-    rw well
-    (record { heard = stops .0; none-before = stops .1; or-all = stops .2; reader = ap readerOf (taken-line (lineOf reader) piece) })
+-- the end
+pub the-end-gives-11 : TheEndGives11
+the-end-gives-11 = (refl, λ first held. ap (event (refused 11)) (sym (add-one (length held))))
 
-pub an-empty-piece-gives-nothing : AnEmptyPieceGivesNothing
-unfolding feedReaderAt
-an-empty-piece-gives-nothing reader declared well =
-    rw well (λ i. record { reader = reader-back reader well (declared .0) (declared .1) (declared .2) i; taken = 0; heard = Nothing })
-
-pub the-end-leaves-it-outside : TheEndLeavesItOutside
-unfolding endReaderAt
-the-end-leaves-it-outside reader declared well = rw well (refl, omega (arith, declared .1), omega (arith, declared .2), omega (arith, declared .1))
+pub the-end-keeps-the-counts : TheEndKeepsTheCounts
+the-end-keeps-the-counts line = (refl, refl, refl)

@@ -9,12 +9,11 @@ use lib.ListN.{length, take, drop}
 use lib.Seq.{drop-append-add}
 use Rattle.ascii.specs.Control.{stx}
 use Rattle.trailer.specs.declared.Order.{Order}
-use Rattle.line.specs.Line.{feedOf, fedFor}
+use Rattle.line.specs.Line.{feedOf}
 use Rattle.line.specs.Runs.{hasStx, strayRun}
-use Rattle.line.specs.Skipping.{TheRunEndsAtTheNextStx, behind, StrayBytesMayBeSkipped}
+use Rattle.line.specs.Skipping.{TheRunEndsAtTheNextStx}
 use Rattle.line.proofs.FeedLaws.{later, later-later, outside, feed-stray}
 use Rattle.line.proofs.RunLaws.{stray-ends, stray-past}
-use Rattle.line.proofs.Wraps.{feed-reader}
 
 -- no STX before the end of a run
 none-on : (t : Bool) (byte n : ℕ) (piece : List ℕ) → eqb byte stx ≡ t → hasStx (take n piece) ≡ false → hasStx (take (cond t 0 (suc n)) (byte ∷ piece)) ≡ false
@@ -36,7 +35,7 @@ module _ (order : Order) (fed stray : ℕ) (run rest : List ℕ) (none : hasStx 
   abbrev m : ℕ
   m = strayRun rest
 
-  past : feedOf (outside order fed stray) (run ++ rest) ≡ later n (feedOf (outside order (fed + n) (stray + n)) rest)
+  pub past : feedOf (outside order fed stray) (run ++ rest) ≡ later n (feedOf (outside order (fed + n) (stray + n)) rest)
   past =
       let sum = stray-past run rest none in
       let f : fed + (n + m) ≡ fed + n + m = omega arith in
@@ -46,9 +45,3 @@ module _ (order : Order) (fed stray : ℕ) (run rest : List ℕ) (none : hasStx 
       ∙ (λ i. later (n + m) (feedOf (outside order (f i) (s i)) (drop-append-add run rest m i)))
       ∙ sym (later-later n m (n + m) (feedOf (outside order (fed + n + m) (stray + n + m)) (drop m rest)) (omega arith))
       ∙ ap (later n) (sym (feed-stray order (fed + n) (stray + n) rest))
-
-pub stray-bytes-may-be-skipped : StrayBytesMayBeSkipped
-stray-bytes-may-be-skipped fed stray order run rest none =
-    feed-reader order [] fed stray (omega arith) refl (run ++ rest)
-    ∙ ap fedFor (past order fed stray run rest none)
-    ∙ ap (behind (length run)) (sym (feed-reader order [] (fed + length run) (stray + length run) (omega arith) refl rest))

@@ -12,7 +12,8 @@ use Rattle.trailer.specs.declared.Order.{Order}
 use Rattle.line.specs.declared.Reader.{Reader}
 use Rattle.line.specs.declared.Fed.{Fed}
 use Rattle.line.specs.declared.Heard.the-variants.{Nothing}
-use Rattle.line.specs.Line.{lineWith, feedOf, readerOf, fedFor, feedReader}
+use Rattle.line.specs.Readers.{readerOf, fedFor, feedReader}
+use Rattle.line.specs.Line.{lineWith, feedOf}
 use Rattle.line.specs.Runs.{strayRun}
 use Rattle.line.proofs.FeedLaws.{later, outside, feed-stray, feed-start}
 use Rattle.line.proofs.RunLaws.{stray-ends}

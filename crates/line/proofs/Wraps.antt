@@ -1,35 +1,18 @@
 -- A reader stands for its line: it knows the counts only with the wrap, and that is all that feeding needs. Assumes nothing.
 use mathlib.Core.Path.{_≡_, refl, ap, sym, _∙_}
-use mathlib.Core.Bool.{Bool, true, false, cond, _&&_}
+use mathlib.Core.Bool.{Bool, true, _&&_}
 use mathlib.Core.List.{List, [], _∷_, _++_}
-use Prim.Native.Nat.{ℕ, zero, suc, _+_, _-_, _%_, _^_, _≤_, _<_}
+use Prim.Native.Nat.{ℕ, zero, suc, _+_, _-_, _%_, _^_, _≤_}
 use native.Mathlib.Omega.{arith}
-use lib.Dec.{eqb, leb}
-use lib.ListN.{length, take, drop, replicate, length-append}
+use lib.ListN.{length, take, drop, replicate}
 use lib.Seq.{take-append-seam, drop-append-seam}
-use borrow.Author.Tests.{eq-eqb, le-leb, leb-false}
-use Rattle.ascii.specs.Control.{stx, etx}
+use borrow.Author.Tests.{eq-eqb, le-leb}
 use Rattle.trailer.specs.declared.Order.{Order}
 use Rattle.line.specs.declared.Heard.the-variants.{Nothing, Event}
-use Rattle.line.specs.Line.{places, lineWith, answerFor, Line, Told, nothing, event, Feeding, stopOr, feedOf, heldAfterAt, heldAfter, toldBy, strayBy, step, startOf, readerOf, lineOf, isStarted, allZero, wellFormed, wellFormedAt, fedFor, feedReader, feedReaderAt}
+use Rattle.line.specs.Readers.{readerOf, lineOf, allZero, wellFormed, wellFormedAt, fedFor, feedReader, feedReaderAt}
+use Rattle.line.specs.Line.{places, lineWith, answerFor, Line, Told, nothing, event, Feeding, stopOr, feedOf, heldAfter, toldBy, strayBy, startOf, isStarted}
 use Rattle.line.proofs.Inside.{reader-wraps}
-
--- no byte makes a reader hold more than there are places, whatever the bound
-module _ (bound : ℕ) (some : 0 < bound) where
-  fits-by : (held : List ℕ) (byte : ℕ) (is-etx is-stx is-full : Bool) → leb bound (length held) ≡ is-full
-      → length (cond is-etx [] (cond is-stx (stx ∷ []) (cond is-full [] (held ++ byte ∷ [])))) ≤ bound
-  fits-by held byte true is-stx is-full e = omega arith
-  fits-by held byte false true is-full e = omega arith
-  fits-by held byte false false true e = omega arith
-  fits-by held byte false false false e = omega (arith, length-append held (byte ∷ []), leb-false bound (length held) e)
-
-  begins-by : (is-stx : Bool) → length (cond {A = List ℕ} is-stx (stx ∷ []) []) ≤ bound
-  begins-by true = omega arith
-  begins-by false = omega arith
-
-  pub held-fits : (held : List ℕ) (byte : ℕ) → length (heldAfterAt bound held byte) ≤ bound
-  held-fits [] byte = begins-by (eqb byte stx)
-  held-fits (first ∷ held) byte = fits-by (first ∷ held) byte (eqb byte etx) (eqb byte stx) (leb bound (length (first ∷ held))) refl
+use Rattle.line.proofs.GoodLines.{held-fits}
 
 -- feeding says the same of two lines whose counts wrap alike
 abbrev pub Alike : Order → List ℕ → ℕ → ℕ → ℕ → ℕ → List ℕ → Type 0
@@ -83,12 +66,3 @@ module _ (order : Order) (held : List ℕ) (fed stray : ℕ) (fits : length held
       rw reader-well
       ((λ i. fedFor (feedOf (lineWith (held-back i) (fed % 2 ^ 32) (stray % 2 ^ 32) order) piece))
       ∙ alike order held (fed % 2 ^ 32) fed (stray % 2 ^ 32) stray piece fits (omega arith) (omega arith))
-
--- no more is taken than there is
-taken-by : (told : Told) (start : ℕ) (next : Line) (on : Feeding) (size : ℕ) → on .taken ≤ size → stopOr told start next on .taken ≤ suc size
-taken-by nothing start next on size h = omega arith
-taken-by (event outcome count) start next on size h = omega arith
-
-pub taken-fits : (line : Line) (piece : List ℕ) → feedOf line piece .taken ≤ length piece
-taken-fits line [] = omega arith
-taken-fits line (byte ∷ piece) = taken-by (toldBy (line .order) (line .held) byte) _ _ _ (length piece) (taken-fits (step line byte) piece)

@@ -7,28 +7,8 @@ use lib.ListN.{length, drop}
 use Rattle.line.specs.declared.Reader.{Reader}
 use Rattle.line.specs.declared.Fed.{Fed}
 use Rattle.line.specs.declared.Heard.{Heard}
-use Rattle.line.specs.declared.Heard.the-variants.{Nothing, Event, Refused}
-use Rattle.line.specs.Line.{places, Line, Told, nothing, event, toldByAt, stepAt, startOf, answerFor, feedReader}
-
--- what a line tells byte by byte, and what it then holds
-abbrev pub tells : Told → ℕ → List Heard → List Heard
-tells nothing start later = later
-tells (event outcome size) start later = Event (answerFor outcome) start size ∷ later
-
-abbrev pub eventsAt : ℕ → Line → List ℕ → List Heard
-eventsAt bound line [] = []
-eventsAt bound line (byte ∷ bytes) =
-    tells (toldByAt bound (line .order) (line .held) byte) (startOf line) (eventsAt bound (stepAt bound line byte) bytes)
-
-abbrev pub lineAfterAt : ℕ → Line → List ℕ → Line
-lineAfterAt bound line [] = line
-lineAfterAt bound line (byte ∷ bytes) = lineAfterAt bound (stepAt bound line byte) bytes
-
-abbrev pub eventsOf : Line → List ℕ → List Heard
-eventsOf = eventsAt places
-
-abbrev pub lineAfter : Line → List ℕ → Line
-lineAfter = lineAfterAt places
+use Rattle.line.specs.Readers.{feedReader}
+use Rattle.line.specs.Events.{heardThen}
 
 -- what calls on one piece leave: "the caller passes on the rest of the piece that it hasn't taken"
 pub record Calls : Type 0 where
@@ -37,11 +17,6 @@ pub record Calls : Type 0 where
   pub heard : List Heard
 
 -- one call of any reader's feed, so that the demand can be held against any
-abbrev pub heardThen : Heard → List Heard → List Heard
-heardThen Nothing later = later
-heardThen (Event answer start size) later = Event answer start size ∷ later
-heardThen (Refused number) later = Refused number ∷ later
-
 abbrev pub calledFor : Fed → List ℕ → Calls
 calledFor fed piece = record { reader = fed .reader; rest = drop (fed .taken) piece; heard = heardThen (fed .heard) [] }
 

@@ -1,30 +1,25 @@
 -- Document 01, "The line, byte by byte", and document 02, f: "the trailer order .. becomes a setting of the line", and g: the bound.
 use mathlib.Core.Bool.{Bool, true, cond, not, _&&_}
 use mathlib.Core.List.{List, [], _∷_, _++_}
-use mathlib.Core.Path.{_≡_}
-use Prim.Native.Nat.{ℕ, _+_, _-_, _%_, _^_, _<_}
+use Prim.Native.Nat.{ℕ, _+_, _-_, _%_, _^_}
 use lib.Dec.{leb, eqb}
-use lib.ListN.{length, take, drop, replicate}
+use lib.ListN.{length}
 use Rattle.refusals.specs.Refusals.{Outcome, done, refused}
 use Rattle.record.specs.declared.Record.{Record}
 use Rattle.record.specs.declared.RecordAnswer.{RecordAnswer}
 use Rattle.record.specs.declared.RecordAnswer.the-variants as answer
 use Rattle.trailer.specs.declared.Order.{Order}
-use Rattle.trailer.specs.declared.Order.the-variants.{AsPrinted}
 use Rattle.telegram.specs.Reading.{readIn}
 use Rattle.ascii.specs.Control.{stx, etx}
-use Rattle.line.specs.declared.Reader.{Reader}
 use Rattle.line.specs.declared.Heard.{Heard}
 use Rattle.line.specs.declared.Heard.the-variants.{Nothing, Event, Refused}
-use Rattle.line.specs.declared.Fed.{Fed}
-use Rattle.line.specs.declared.Ended.{Ended}
 
--- "the reader then holds 0 to 38 bytes" (document 02, g). What a reader is stands below over any bound, and is in use at this one
+-- "the reader then holds 0 to 38 bytes" (document 02, g). What a line does stands below over any bound, and is in use at this one
 abbrev pub places : ℕ
 places = 38
 
--- what a reader's state means: the bytes held, two counts that know no end, and the order of the trailers on it. Lines and readers are
--- made by `lineWith` and `readerWith` alone
+-- what a reader's state means: the bytes held, two counts that know no end, and the order of the trailers on it. Lines are made by
+-- `lineWith` alone
 pub record Line : Type 0 where
   pub held : List ℕ
   pub fed : ℕ
@@ -33,10 +28,6 @@ pub record Line : Type 0 where
 
 abbrev pub lineWith : List ℕ → ℕ → ℕ → Order → Line
 lineWith held fed stray order = record { held = held; fed = fed; stray = stray; order = order }
-
-abbrev pub readerWith : List ℕ → ℕ → ℕ → ℕ → ℕ → Order → Reader
-readerWith held len fed stray start order =
-    record { held = held; len = len; fed = fed; stray = stray; start = start; order = order }
 
 -- what one byte tells: nothing, or an event with its length
 pub data Told : Type 0 where
@@ -114,30 +105,11 @@ abbrev pub toldByEnd : List ℕ → Told
 toldByEnd [] = nothing
 toldByEnd (first ∷ held) = event (refused 11) (length (first ∷ held))
 
--- a reader for what it means; its counts "wrap at 4,294,967,296"
-abbrev pub readerAt : ℕ → Line → Reader
-readerAt bound line =
-    readerWith (line .held ++ replicate (bound - length (line .held)) 0) (length (line .held)) (line .fed % 2 ^ 32) (line .stray % 2 ^ 32) (startOf line)
-    (line .order)
-
-abbrev pub readerOf : Line → Reader
-readerOf = readerAt places
-
-abbrev pub lineOf : Reader → Line
-lineOf reader = lineWith (take (reader .len) (reader .held)) (reader .fed) (reader .stray) (reader .order)
-
--- "a fresh one holds none and all its counts are 0", for a line of a named order; "as-printed if not named"
+-- "a fresh one holds none and all its counts are 0", for a line of a named order
 abbrev pub freshLine : Order → Line
 freshLine order = lineWith [] 0 0 order
 
-abbrev pub freshIn : Order → Reader
-freshIn order = readerWith (replicate places 0) 0 0 0 0 order
-
-abbrev pub freshReader : Reader
-freshReader = freshIn AsPrinted
-
--- at most so many held; "if any, the first is STX and no other is STX or ETX; places beyond the held ones are zero; the start position
--- is fed less held, with the wrap"
+-- of the bytes held, "if any, the first is STX and no other is STX or ETX"
 abbrev pub isPlain : ℕ → Bool
 isPlain byte = not (eqb byte stx) && not (eqb byte etx)
 
@@ -149,24 +121,7 @@ abbrev pub isStarted : List ℕ → Bool
 isStarted [] = true
 isStarted (first ∷ held) = eqb first stx && allPlain held
 
-abbrev pub allZero : List ℕ → Bool
-allZero [] = true
-allZero (byte ∷ bytes) = eqb byte 0 && allZero bytes
-
-unfoldable pub wellFormedAt : ℕ → Reader → Bool
-wellFormedAt bound reader =
-    leb (reader .len) bound
-    && (isStarted (take (reader .len) (reader .held))
-    && (allZero (drop (reader .len) (reader .held)) && eqb (reader .start) (startOf (lineOf reader))))
-
-abbrev pub wellFormed : Reader → Bool
-wellFormed = wellFormedAt places
-
--- what a reader's declaration says already: an array of so many places, and counts of 32 bits
-abbrev pub AsDeclared : Reader → Type 0
-AsDeclared reader = (length (reader .held) ≡ places) × (reader .fed < 2 ^ 32) × (reader .stray < 2 ^ 32)
-
--- what is handed out: for each case the paper's number and values. 15 is no event
+-- what is handed out: for each case the paper's number and values
 abbrev pub answerFor : Outcome Record → RecordAnswer
 answerFor (done rec) = answer.Good rec
 answerFor (refused number) = answer.Refused number
@@ -174,27 +129,3 @@ answerFor (refused number) = answer.Refused number
 abbrev pub heardFor : Told → ℕ → Heard
 heardFor nothing start = Nothing
 heardFor (event outcome size) start = Event (answerFor outcome) start size
-
-abbrev pub fedAt : ℕ → Feeding → Fed
-fedAt bound feeding =
-    record { reader = readerAt bound (feeding .line); taken = feeding .taken; heard = heardFor (feeding .told) (feeding .at) }
-
-abbrev pub fedFor : Feeding → Fed
-fedFor = fedAt places
-
--- "a state refused with 15 takes no byte, gives no event and nothing else"
-unfoldable pub feedReaderAt : ℕ → Reader → List ℕ → Fed
-feedReaderAt bound reader piece =
-    cond (wellFormedAt bound reader) (fedAt bound (feedAt bound (lineOf reader) piece)) (record { reader = reader; taken = 0; heard = Refused 15 })
-
-unfoldable pub endReaderAt : ℕ → Reader → Ended
-endReaderAt bound reader =
-    cond (wellFormedAt bound reader)
-    (record { reader = readerAt bound (ended (lineOf reader)); heard = heardFor (toldByEnd (lineOf reader .held)) (reader .start) })
-    (record { reader = reader; heard = Refused 15 })
-
-abbrev pub feedReader : Reader → List ℕ → Fed
-feedReader = feedReaderAt places
-
-abbrev pub endReader : Reader → Ended
-endReader = endReaderAt places

@@ -1,18 +1,17 @@
 -- Document 02, g, "Longer telegrams": the bound, in the request's own numbers. A telegram on a fresh line is STX and bytes that are
 -- neither STX nor ETX, which are called plain.
-use mathlib.Core.Bool.{true, false}
+use mathlib.Core.Bool.{true}
 use mathlib.Core.List.{List, [], _∷_, _++_}
 use mathlib.Core.Path.{_≡_}
-use Prim.Native.Nat.{ℕ, _+_, _≤_, _<_}
+use Prim.Native.Nat.{ℕ, _+_, _≤_}
 use lib.ListN.{length}
 use Rattle.record.specs.declared.RecordAnswer.the-variants as answer
 use Rattle.trailer.specs.declared.Order.{Order}
 use Rattle.telegram.specs.Reading.{readIn}
 use Rattle.ascii.specs.Control.{stx, etx}
-use Rattle.line.specs.declared.Reader.{Reader}
 use Rattle.line.specs.declared.Heard.the-variants.{Event}
-use Rattle.line.specs.Line.{freshLine, isPlain, allPlain, readerOf, wellFormedAt, wellFormed, answerFor, endReader}
-use Rattle.line.specs.Cuts.{eventsOf, lineAfter}
+use Rattle.line.specs.Line.{freshLine, isPlain, allPlain, answerFor}
+use Rattle.line.specs.Events.{eventsOf, lineAfter}
 
 -- "the reader then holds 0 to 38 bytes": STX and up to 37 behind it tell nothing, and all of them are held
 abbrev pub UpTo38BytesAreHeld : Type 0
@@ -27,11 +26,6 @@ StxCutsOffUpTo38 =
     → (eventsOf (freshLine order) (stx ∷ body ++ stx ∷ []) ≡ Event (answer.Refused 9) 0 (length body + 1) ∷ [])
     × (lineAfter (freshLine order) (stx ∷ body ++ stx ∷ []) .held ≡ stx ∷ [])
 
-abbrev pub TheEndCutsOffUpTo38 : Type 0
-TheEndCutsOffUpTo38 =
-    (order : Order) (body : List ℕ) → allPlain body ≡ true → length body ≤ 37
-    → endReader (readerOf (lineAfter (freshLine order) (stx ∷ body))) .heard ≡ Event (answer.Refused 11) 0 (length body + 1)
-
 -- "10 is given when 38 are held, with a refused length of 39": by any plain byte, and the reader is outside
 abbrev pub TenIsGivenWhen38AreHeld : Type 0
 TenIsGivenWhen38AreHeld =
@@ -45,8 +39,3 @@ UpTo39BytesAreJudged =
     (order : Order) (body : List ℕ) → allPlain body ≡ true → length body ≤ 37
     → eventsOf (freshLine order) (stx ∷ body ++ etx ∷ [])
     ≡ Event (answerFor (readIn order true (stx ∷ body ++ etx ∷ []))) 0 (length body + 2) ∷ []
-
--- "38 stands for 24 in the well-formed rule too"
-abbrev pub TheRuleIsTheOneAt38 : Type 0
-TheRuleIsTheOneAt38 =
-    (reader : Reader) → (wellFormed reader ≡ wellFormedAt 38 reader) × (38 < reader .len → wellFormed reader ≡ false)

@@ -8,7 +8,7 @@ use Rattle.line.specs.declared.Heard.the-variants.{Nothing, Event, Refus
 use Rattle.line.specs.declared.Fed.{Fed}
 use Rattle.line.specs.declared.pieces.Slot.{Slot}
 use Rattle.line.specs.declared.pieces.Passed.{Passed}
-use Rattle.line.specs.Line.{feedReader}
+use Rattle.line.specs.Readers.{feedReader}
 use Rattle.line.specs.Cuts.{Calls}
 
 -- how many events one call of `use_up` has room for

@@ -19,10 +19,8 @@ use Rattle.telegram.specs.Writing.{telegramIn as written}
 use Rattle.telegram.proofs.WriteLaws.{length-body, length-framed}
 use Rattle.telegram.proofs.InOrder.{length-telegram, accepted}
 use Rattle.log.specs.Check.{checkOf, lowFirst}
-use Rattle.log.specs.Block.{slots, slotSize, countPlace, checkPlace, blockSize}
-use Rattle.log.specs.Block.{filled, slotOf, slotsOf, bodyOf, sealed, blockOf}
-use Rattle.log.specs.Good.{countIn, telegramIn, telegramsFrom, telegramsOf}
-use Rattle.log.specs.Good.{isDone, readsWell, allReadWell, same, isKept, isGood}
+use Rattle.log.specs.Block.{slots, slotSize, countPlace, checkPlace, blockSize, filled, slotOf, slotsOf, bodyOf, sealed, blockOf}
+use Rattle.log.specs.Good.{countIn, telegramIn, telegramsFrom, telegramsOf, isDone, readsWell, allReadWell, same, isKept, isGood}
 use Rattle.log.specs.LongestTelegram.{NoneAcceptedIsLonger, ThatManyFitASlot}
 use Rattle.log.proofs.PartLaws.{behind-first}
 use Rattle.log.proofs.SameLaws.{same-true, same-refl, length-filled}

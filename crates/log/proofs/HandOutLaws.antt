@@ -12,7 +12,8 @@ use Rattle.log.specs.Region.{blocksOf}
 use Rattle.log.specs.ReadBack.{numbered, telegramAt, readBackOf}
 use Rattle.log.specs.declared.read_back.Located.{Located}
 use Rattle.log.specs.declared.read_back.Located.the-variants.{At, Refused}
-use Rattle.log.specs.Answers.{locatedIn, telegramPlace, StandsIn, numberOf, bytesOf, beginOf, byteAt}
+use Rattle.log.specs.Located.{locatedIn, StandsIn}
+use Rattle.log.specs.Answers.{telegramPlace, numberOf, bytesOf, beginOf, byteAt}
 use Rattle.log.specs.OfTheLog.{TheNumber0TellsATelegram}
 use Rattle.log.proofs.PartLaws.{part-lent}
 

@@ -1,15 +1,11 @@
 -- The answers of the log: for each of their cases, the paper's number or the value handed out.
 use mathlib.Core.List.{List, []}
-use mathlib.Core.Path.{_≡_}
-use Prim.Native.Nat.{ℕ, _+_, _*_, _≤_}
-use lib.ListN.{length, take, drop}
+use Prim.Native.Nat.{ℕ, _+_, _*_}
 use denote.Ref.{RefT}
 use Rattle.refusals.specs.Refusals.{Outcome, done, refused}
 use Rattle.log.specs.declared.Place.{Place}
 use Rattle.log.specs.declared.add.AddAnswer.{AddAnswer}
 use Rattle.log.specs.declared.add.AddAnswer.the-variants.{Added, Refused}
-use Rattle.log.specs.declared.read_back.Located.{Located}
-use Rattle.log.specs.declared.read_back.Located.the-variants as located
 use Rattle.log.specs.Block.{slotSize, blockSize}
 
 -- where the telegram stands
@@ -17,19 +13,9 @@ abbrev pub addAnswer : AddAnswer → Outcome Place
 addAnswer (Added place) = done place
 addAnswer (Refused number) = refused number
 
--- the bytes of a part of the region
-abbrev pub locatedIn : List ℕ → Located → Outcome (List ℕ)
-locatedIn region (located.At start size) = done (take size (drop start region))
-locatedIn region (located.Refused number) = refused number
-
 -- the byte of the region where the telegram of a slot begins: behind the slot's length byte
 abbrev pub telegramPlace : ℕ → ℕ → ℕ
 telegramPlace block slot = blockSize * block + slotSize * slot + 1
-
--- a part that begins there and ends within the region
-abbrev pub StandsIn : List ℕ → ℕ → ℕ → Located → Type 0
-StandsIn region block slot (located.At start size) = (start ≡ telegramPlace block slot) × (start + size ≤ length region)
-StandsIn region block slot (located.Refused number) = Unit {0}
 
 -- the number beside a telegram is 0
 abbrev pub numberOf : Outcome (List ℕ) → ℕ

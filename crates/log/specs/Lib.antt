@@ -5,6 +5,7 @@ pub mod Region
 pub mod Verify
 pub mod Add
 pub mod ReadBack
+pub mod Located
 pub mod Answers
 pub mod Tests
 pub mod AsPrinted

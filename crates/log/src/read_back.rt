@@ -9,7 +9,8 @@ use refusals::NONE;
 use refusals::NOT_WHOLE_BLOCKS;
 ghost use mathlib.Core.Path.{_≡_};
 ghost use Rattle.log.specs.ReadBack.{readBackOf};
-ghost use Rattle.log.specs.Answers.{locatedIn, telegramPlace, StandsIn, numberOf, bytesOf, beginOf, byteAt};
+ghost use Rattle.log.specs.Located.{locatedIn, StandsIn};
+ghost use Rattle.log.specs.Answers.{telegramPlace, numberOf, bytesOf, beginOf, byteAt};
 
 // Where a telegram's bytes begin in the region and how many they are, or the number that refuses it.
 enum Located {

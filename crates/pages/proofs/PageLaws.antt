@@ -19,9 +19,10 @@ use Rattle.line.specs.declared.Reader.{Reader}
 use Rattle.line.specs.declared.Fed.{Fed}
 use Rattle.line.specs.declared.Heard.{Heard}
 use Rattle.line.specs.declared.Heard.the-variants.{Nothing, Refused}
-use Rattle.line.specs.Line.{wellFormed, feedReader, feedReaderAt, feedOf, lineOf, fedFor, toldBy, startOf, step}
+use Rattle.line.specs.Readers.{wellFormed, feedReader, feedReaderAt, lineOf, fedFor}
+use Rattle.line.specs.Line.{feedOf, toldBy, startOf, step}
 use Rattle.line.proofs.PieceLaws.{feed-fits}
-use Rattle.line.proofs.CutLaws.{some-by}
+use Rattle.line.proofs.EventLaws.{some-by}
 use Rattle.pages.specs.Pages.{rowFor, Underway, behindCall, ifAny, nextRow, rowsIn, pageFor, stopped, pageOf, listedFor}
 
 -- what has no row is not laid

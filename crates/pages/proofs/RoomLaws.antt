@@ -12,10 +12,12 @@ use Rattle.laying.specs.OneBehindAnother.{part, partThen, oneBehindAnother, end
 use Rattle.laying.proofs.LayingLaws.{within-fits}
 use Rattle.laying.proofs.OneBehindAnotherLaws.{first-part, Comes, none, more, ends-by-room}
 use Rattle.line.specs.declared.Reader.{Reader}
-use Rattle.line.specs.Line.{Line, Told, nothing, event, Feeding, stopOr, feedOf, toldBy, step, startOf, readerOf, heardFor, fedFor, freshLine, freshIn}
-use Rattle.line.specs.Cuts.{eventsOf}
-use Rattle.line.proofs.StaysGood.{Good, good-feed, feed-good, reader-of-good}
-use Rattle.line.proofs.CutLaws.{feed-parts, some-by, shorter, good-fresh}
+use Rattle.line.specs.Readers.{readerOf, fedFor, freshIn}
+use Rattle.line.specs.Line.{Line, Told, nothing, event, Feeding, stopOr, feedOf, toldBy, step, startOf, heardFor, freshLine}
+use Rattle.line.specs.Events.{eventsOf}
+use Rattle.line.proofs.GoodLines.{Good, good-feed}
+use Rattle.line.proofs.StaysGood.{feed-good, reader-of-good}
+use Rattle.line.proofs.EventLaws.{feed-parts, some-by, shorter, good-fresh}
 use Rattle.listing.specs.Listing.{longestRow}
 use Rattle.listing.proofs.RowLaws.{record-short, refused-short}
 use Rattle.pages.specs.Pages.{rowFor, Underway, behindCall, nextRow, rowsIn, pageFor, pageOf}

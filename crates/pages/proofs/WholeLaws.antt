@@ -20,10 +20,12 @@ use Rattle.trailer.specs.declared.Order.{Order}
 use Rattle.line.specs.declared.Reader.{Reader}
 use Rattle.line.specs.declared.Heard.{Heard}
 use Rattle.line.specs.declared.Heard.the-variants.{Nothing, Event, Refused}
-use Rattle.line.specs.Line.{places, Line, Told, nothing, event, Feeding, stopOr, feedOf, toldBy, step, startOf, readerOf, heardFor, freshLine, freshIn, feedReader, endReader}
-use Rattle.line.specs.Cuts.{eventsOf, lineAfter, heardThen}
-use Rattle.line.proofs.StaysGood.{Good, good-feed, feed-good, end-good, reader-of-good}
-use Rattle.line.proofs.CutLaws.{feed-parts, events-join, after-join, good-after, good-fresh}
+use Rattle.line.specs.Readers.{readerOf, freshIn, feedReader, endReader}
+use Rattle.line.specs.Line.{places, Line, Told, nothing, event, Feeding, stopOr, feedOf, toldBy, step, startOf, heardFor, freshLine}
+use Rattle.line.specs.Events.{eventsOf, lineAfter, heardThen}
+use Rattle.line.proofs.GoodLines.{Good, good-feed}
+use Rattle.line.proofs.StaysGood.{feed-good, end-good, reader-of-good}
+use Rattle.line.proofs.EventLaws.{feed-parts, events-join, after-join, good-after, good-fresh}
 use Rattle.listing.specs.Listing.{headerRow, recordRow, strayRow}
 use Rattle.pages.specs.Pages.{rowFor, Underway, behindCall, nextRow, rowsIn, Page, pageOf}
 use Rattle.pages.specs.Whole.{rowOfEvent, rowsOf, listingIn, Turns, turnsWith, Lent, bytesLent, rowsLaid, readerLeft, AllListed, WhatIsLaidIsTheListing}

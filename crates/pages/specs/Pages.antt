@@ -11,7 +11,7 @@ use Rattle.line.specs.declared.Reader.{Reader}
 use Rattle.line.specs.declared.Fed.{Fed}
 use Rattle.line.specs.declared.Heard.{Heard}
 use Rattle.line.specs.declared.Heard.the-variants.{Nothing, Event, Refused}
-use Rattle.line.specs.Line.{wellFormed, feedReader}
+use Rattle.line.specs.Readers.{wellFormed, feedReader}
 use Rattle.listing.specs.Listing.{eventRow}
 use Rattle.pages.specs.declared.Listed.{Listed}
 

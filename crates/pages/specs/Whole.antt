@@ -11,8 +11,9 @@ use Rattle.trailer.specs.declared.Order.the-variants.{AsPrinted}
 use Rattle.line.specs.declared.Reader.{Reader}
 use Rattle.line.specs.declared.Heard.{Heard}
 use Rattle.line.specs.declared.Heard.the-variants.{Nothing, Event, Refused}
-use Rattle.line.specs.Line.{Line, freshLine, freshIn, toldByEnd, startOf, heardFor, endReader}
-use Rattle.line.specs.Cuts.{eventsOf, lineAfter}
+use Rattle.line.specs.Readers.{freshIn, endReader}
+use Rattle.line.specs.Line.{Line, freshLine, toldByEnd, startOf, heardFor}
+use Rattle.line.specs.Events.{eventsOf, lineAfter}
 use Rattle.listing.specs.Listing.{longestRow, headerRow, recordRow, refusedRow, strayRow}
 use Rattle.pages.specs.Pages.{pageOf}
 

@@ -7,10 +7,12 @@ use native.Mathlib.Omega.{arith}
 use lib.ListN.{length, take, drop, length-drop}
 use lib.Seq.{take-all, drop-drop}
 use Rattle.line.specs.declared.Reader.{Reader}
-use Rattle.line.specs.Line.{places, Line, readerOf, lineOf, wellFormed}
-use Rattle.line.specs.Cuts.{lineAfter}
+use Rattle.line.specs.Readers.{readerOf, lineOf, wellFormed}
+use Rattle.line.specs.Line.{places, Line}
+use Rattle.line.specs.Events.{lineAfter}
 use Rattle.line.proofs.ReaderLaws.{reader-back}
-use Rattle.line.proofs.StaysGood.{Good, good-line}
+use Rattle.line.proofs.GoodLines.{Good}
+use Rattle.line.proofs.StaysGood.{good-line}
 use Rattle.pages.specs.Pages.{Page, pageOf}
 use Rattle.pages.proofs.PageLaws.{call-takes}
 use Rattle.pages.proofs.WholeLaws.{call-continues}

@@ -3,7 +3,7 @@ use mathlib.Core.Path.{_≡_, refl, ap, sym, _∙_, subst⁻¹}
 use mathlib.Core.Bool.{true, false, cond}
 use Prim.Native.Nat.{ℕ}
 use Rattle.line.specs.declared.Reader.{Reader}
-use Rattle.line.specs.Line.{wellFormed}
+use Rattle.line.specs.Readers.{wellFormed}
 use Rattle.printing.specs.declared.Output.{Output}
 use Rattle.printing.specs.declared.Output.the-variants as output
 use Rattle.printing.specs.declared.Printer.{Printer}

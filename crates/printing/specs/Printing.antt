@@ -4,8 +4,8 @@ use mathlib.Core.Bool.{cond}
 use mathlib.Core.List.{List}
 use Prim.Native.Nat.{ℕ}
 use Rattle.line.specs.declared.Reader.{Reader}
-use Rattle.line.specs.Line.{readerOf, lineOf, wellFormed}
-use Rattle.line.specs.Cuts.{lineAfter}
+use Rattle.line.specs.Readers.{readerOf, lineOf, wellFormed}
+use Rattle.line.specs.Events.{lineAfter}
 use Rattle.listing.specs.declared.RowAnswer.{RowAnswer}
 use Rattle.listing.specs.declared.RowAnswer.the-variants as row
 use Rattle.printing.specs.declared.Output.{Output}

@@ -8,7 +8,7 @@ use refusals::STATE_ILL_FORMED;
 use trailer::Order;
 ghost use mathlib.Core.Path.{_≡_};
 ghost use Prim.Native.Nat.{min};
-ghost use Rattle.line.specs.Line.{freshIn, freshReader, endReader};
+ghost use Rattle.line.specs.Readers.{freshIn, freshReader, endReader};
 ghost use Rattle.pages.specs.Pages.{pageOf};
 ghost use Rattle.printing.specs.declared.Output.the-variants.{Whole};
 ghost use Rattle.printing.specs.Printing.{pageRoom, afterPiece, printed, printedRow};

@@ -13,7 +13,7 @@ use Rattle.ascii.specs.Control.{stx, etx}
 use Rattle.trailer.specs.declared.Order.{Order}
 use Rattle.line.specs.declared.Heard.{Heard}
 use Rattle.line.specs.Line.{Line, lineWith, Told, nothing, event, judgement, heldAfterAt, toldByAt, strayBy, stepAt, startOf, Feeding, stopOr, feedAt, heardFor}
-use Rattle.line.specs.Cuts.{tells, eventsAt, lineAfterAt}
+use Rattle.line.specs.Events.{tells, eventsAt, lineAfterAt}
 use Rattle.takeover.specs.Sentences.{isTen, noTen}
 
 -- what a call has heard

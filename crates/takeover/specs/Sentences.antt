@@ -13,8 +13,10 @@ use Rattle.line.specs.declared.Heard.the-variants.{Nothing, Event, Refused}
 use Rattle.line.specs.declared.Fed.{Fed}
 use Rattle.line.specs.declared.Ended.{Ended}
 use Rattle.trailer.specs.declared.Order.{Order}
-use Rattle.line.specs.Line.{Line, lineOf, readerAt, freshLine, freshIn, wellFormedAt, wellFormed, AsDeclared, feedReaderAt, feedReader, endReaderAt, endReader}
-use Rattle.line.specs.Cuts.{eventsAt, lineAfterAt, eventsOf, lineAfter, feeding, Served, heardOf, readerBehind, heardFrom, readerAfter}
+use Rattle.line.specs.Readers.{lineOf, readerAt, freshIn, wellFormedAt, wellFormed, AsDeclared, feedReaderAt, feedReader, endReaderAt, endReader}
+use Rattle.line.specs.Line.{Line, freshLine}
+use Rattle.line.specs.Events.{eventsAt, lineAfterAt, eventsOf, lineAfter}
+use Rattle.line.specs.Cuts.{feeding, Served, heardOf, readerBehind, heardFrom, readerAfter}
 use Rattle.takeover.specs.declared.Kept.{Kept}
 use Rattle.takeover.specs.TakingOver.{keptPlaces, stateOf, wasWellFormed, AsKept, withMorePlaces, takeOver}
 

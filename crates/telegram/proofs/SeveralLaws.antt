@@ -17,7 +17,8 @@ use Rattle.laying.proofs.OneBehindAnotherLaws.{no-part, first-part, Laying, End
 use Rattle.record.specs.declared.Record.{Record}
 use Rattle.telegram.specs.declared.write.Choice.{Choice}
 use Rattle.telegram.specs.declared.several.Several.{Several}
-use Rattle.telegram.specs.Writing.{telegramFor, nextTelegram, telegramsIn, noneYet, withMore, unlessEnded, severalAfter, severalAll}
+use Rattle.telegram.specs.SeveralTelegrams.{noneYet, withMore, unlessEnded, severalAfter, severalAll}
+use Rattle.telegram.specs.Writing.{telegramFor, nextTelegram, telegramsIn}
 
 -- how several stand with one telegram more
 abbrev pub oneMore : Several → Outcome ℕ → Several

@@ -1,4 +1,5 @@
 pub mod Reading
+pub mod SeveralTelegrams
 pub mod Writing
 pub mod Answers
 pub mod AsPrinted

@@ -1,13 +1,11 @@
 -- Document 01, "Refusal numbers", and document 02, e and f: writing one telegram, and several one behind another.
 use mathlib.Core.Bool.{Bool, true, cond}
 use mathlib.Core.List.{List, [], _∷_, _++_}
-use Prim.Native.Nat.{ℕ, _+_, _-_, _%_, _^_}
-use lib.ListN.{length, take, drop}
+use Prim.Native.Nat.{ℕ}
+use lib.ListN.{length}
 use Rattle.refusals.specs.Refusals.{Outcome, done, refused, unless, after}
-use Rattle.laying.specs.declared.Ending.{Ending}
-use Rattle.laying.specs.declared.Ending.the-variants.{Whole, Refused}
-use Rattle.laying.specs.Laying.{within, laidIn}
-use Rattle.laying.specs.OneBehindAnother.{Next, nothing, part, Standing, joined, oneBehindAnother}
+use Rattle.laying.specs.Laying.{within}
+use Rattle.laying.specs.OneBehindAnother.{Next, nothing, part, Standing, oneBehindAnother}
 use Rattle.ascii.specs.Control.{stx, etx}
 use Rattle.trailer.specs.declared.Order.{Order}
 use Rattle.trailer.specs.declared.Order.the-variants.{AsPrinted}
@@ -21,7 +19,6 @@ use Rattle.record.specs.Next.{nextSecondOf}
 use Rattle.telegram.specs.declared.write.Setting.{Setting}
 use Rattle.telegram.specs.declared.write.Choice.{Choice}
 use Rattle.telegram.specs.declared.write.Choice.the-variants.{Named, NamedIn, Unnamed}
-use Rattle.telegram.specs.declared.several.Several.{Several}
 use Rattle.layouts.specs.Layouts.{placesOf, ownLayout}
 use Rattle.layouts.specs.Coding.{digitsOut}
 
@@ -86,34 +83,3 @@ nextTelegram choice (rec ∷ recs) = part (telegramFor choice rec) recs
 -- the telegrams of a list, in a room of so many bytes
 abbrev pub telegramsIn : Choice → ℕ → List Record → Standing (List Record)
 telegramsIn choice room recs = oneBehindAnother (nextTelegram choice) (length recs) room recs
-
--- nothing written yet
-abbrev pub noneYet : Several
-noneYet = record { count = 0; used = 0; ending = Whole }
-
--- more behind those that stand, and the buffer: how many stand, where the count runs free, how many bytes they take, and how it ended
-abbrev pub withMore : Several → List ℕ → Standing (List Record) → Several × List ℕ
-withMore several buffer more = (
-  record {
-    count = (several .count + length (more .parts)) % 2 ^ 64;
-    used = several .used + length (joined (more .parts));
-    ending = more .ending;
-  },
-  take (several .used) buffer ++ laidIn (done (joined (more .parts))) (drop (several .used) buffer),
-)
-
--- once a refusal ended it, nothing changes
-abbrev pub unlessEnded : {A : Type 0} → Ending → A → A → A
-unlessEnded Whole more same = more
-unlessEnded (Refused number) more same = same
-
--- a list of records, written into the room after the last
-unfoldable pub severalAfter : Choice → Several → List Record → List ℕ → Several × List ℕ
-severalAfter choice several recs buffer =
-    unlessEnded (several .ending) (withMore several buffer (telegramsIn choice (length buffer - several .used) recs)) (several, buffer)
-
--- the same by one call for each record
-abbrev pub severalAll : Choice → List Record → Several → List ℕ → Several × List ℕ
-severalAll choice [] several buffer = (several, buffer)
-severalAll choice (rec ∷ recs) several buffer =
-    severalAll choice recs (severalAfter choice several (rec ∷ []) buffer .0) (severalAfter choice several (rec ∷ []) buffer .1)

@@ -7,7 +7,7 @@ use record::Record;
 ghost use mathlib.Core.Path.{_≡_};
 ghost use mathlib.Core.List.{[], _∷_};
 ghost use Prim.Native.Nat.{min};
-ghost use Rattle.telegram.specs.Writing.{noneYet, severalAfter};
+ghost use Rattle.telegram.specs.SeveralTelegrams.{noneYet, severalAfter};
 
 // How many telegrams stand, how many bytes they take, and the refusal that ended it, if any: every number of a refusal ends it.
 pub struct Several {

@@ -7,8 +7,10 @@ use lib.ListN.{length, take, drop, length-take, length-drop}
 use lib.Seq.{take-all}
 use borrow.Author.Needs.{needs}
 use Rattle.ascii.specs.Control.{stx}
-use Rattle.line.specs.Line.{lineWith, wellFormed, feedReader}
-use Rattle.line.proofs.Wraps.{reader-well, feed-reader, taken-fits}
+use Rattle.line.specs.Readers.{wellFormed, feedReader}
+use Rattle.line.specs.Line.{lineWith}
+use Rattle.line.proofs.EventLaws.{taken-fits}
+use Rattle.line.proofs.Wraps.{reader-well, feed-reader}
 use Rattle.line.proofs.Strays.{outside-starts}
 use Rattle.line.proofs.feed_begun.Statement.{statement}
 use Rattle.line.proofs.feed_begun.Tie as tie

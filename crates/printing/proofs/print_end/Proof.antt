@@ -2,7 +2,7 @@
 use borrow.Author.Needs.{needs}
 use borrow.Author.Tests.{not-true, not-false}
 use mathlib.Core.Path.{refl, ap, sym, _∙_}
-use Rattle.line.specs.Line.{endReader}
+use Rattle.line.specs.Readers.{endReader}
 use Rattle.printing.specs.declared.Output.the-variants as output
 use Rattle.printing.specs.declared.Printer.{Printer}
 use Rattle.printing.proofs.PrintedLaws.{is-refused, is-handed}

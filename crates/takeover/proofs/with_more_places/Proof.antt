@@ -6,7 +6,8 @@ use native.Mathlib.Omega.{arith}
 use lib.ListN.{length, take, drop, getD, replicate, length-map, length-set, take-append-drop}
 use lib.Seq.{take-all, drop-set-lt}
 use Rattle.laying.proofs.CopyLaws.{copy-step}
-use Rattle.line.specs.Line.{places, readerWith}
+use Rattle.line.specs.Readers.{readerWith}
+use Rattle.line.specs.Line.{places}
 use Rattle.takeover.specs.TakingOver.{keptPlaces}
 use Rattle.takeover.proofs.with_more_places.Statement.{statement}
 use Rattle.takeover.proofs.with_more_places.Tie as tie

@@ -1,6 +1,6 @@
 -- `printing::Printer::end` meets its contract.
 use borrow.Author.Needs.{needs}
-use Rattle.line.specs.Line.{endReader}
+use Rattle.line.specs.Readers.{endReader}
 use Rattle.printing.proofs.PrintedLaws.{goes-on, stays-failed, stays-refused}
 use Rattle.printing.proofs.Printer.end.Statement.{statement}
 use Rattle.printing.proofs.Printer.end.Tie as tie
