@@ -9,11 +9,11 @@ use lib.ListN.{length, take, drop, length-drop, take-append-drop}
 use borrow.Author.Tests.{ltb-true, ltb-false, leb-true, leb-false, le-leb, lt-leb}
 use Rattle.refusals.specs.Refusals.{_when_, _else_, Outcome, done, refused, unless, after}
 use Rattle.refusals.proofs.Laws.{else-assoc}
-use Rattle.laying.specs.declared.Ending.{Ending}
-use Rattle.laying.specs.declared.Ending.the-variants as ending
-use Rattle.laying.specs.Laying.{sizeOf, laid}
-use Rattle.laying.specs.Answers.{endingAnswer}
-use Rattle.laying.proofs.LayingLaws.{laid-answer, stops, refused-is-untouched}
+use Rattle.lent_buffer.specs.declared.Ending.{Ending}
+use Rattle.lent_buffer.specs.declared.Ending.the-variants as ending
+use Rattle.lent_buffer.specs.Laying.{sizeOf, laid}
+use Rattle.lent_buffer.specs.Answers.{endingAnswer}
+use Rattle.lent_buffer.proofs.LayingLaws.{laid-answer, stops, refused-is-untouched}
 use Rattle.calendar.specs.Ranges.{inside}
 use Rattle.calendar.specs.Calendar.{dateInRange, dayExists, dateRefusal, monthInRange, monthLength, dayOf, dateAt, dayAfter, isLastDay, dayNumber, dateOf, nextDay}
 use Rattle.calendar.specs.TimeOfDay.{timeInRange, timeRefusal, secondsOf, timeAfter, isLastSecond, secondOfDay, nextSecond}

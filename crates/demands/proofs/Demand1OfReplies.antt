@@ -8,7 +8,7 @@ use lib.Dec.{leb, ltb, eqb}
 use lib.ListN.{length}
 use borrow.Author.Tests.{ne-eqb}
 use Rattle.refusals.specs.Refusals.{_when_, _else_, done, unless}
-use Rattle.laying.proofs.LayingLaws.{refused-is-untouched}
+use Rattle.lent_buffer.proofs.LayingLaws.{refused-is-untouched}
 use Rattle.places.specs.Places.{Place, rowFault, gather, noDigits, foundIn}
 use Rattle.calendar.specs.Calendar.{dateInRange, dayExists, dateRefusal}
 use Rattle.calendar.specs.TimeOfDay.{timeInRange}

@@ -6,10 +6,10 @@ use Prim.Native.Nat.{ℕ, zero, suc}
 use lib.Dec.{ltb}
 use lib.ListN.{length}
 use Rattle.refusals.specs.Refusals.{_when_, Outcome, done, refused, unless, after}
-use Rattle.laying.specs.declared.Ending.the-variants as ending
-use Rattle.laying.specs.Laying.{sizeOf, laid}
-use Rattle.laying.specs.OneBehindAnother.{endingIn}
-use Rattle.laying.proofs.LayingLaws.{within-unless, within-refused, laid-answer, refused-is-untouched}
+use Rattle.lent_buffer.specs.declared.Ending.the-variants as ending
+use Rattle.lent_buffer.specs.Laying.{sizeOf, laid}
+use Rattle.lent_buffer.specs.OneBehindAnother.{endingIn}
+use Rattle.lent_buffer.proofs.LayingLaws.{within-unless, within-refused, laid-answer, refused-is-untouched}
 use Rattle.record.specs.declared.Record.the-variants.{Dated, TimeOnly}
 use Rattle.record.specs.declared.RecordAnswer.{RecordAnswer}
 use Rattle.record.specs.declared.RecordAnswer.the-variants as answer
@@ -20,10 +20,10 @@ use Rattle.line.specs.Events.{eventsOf}
 use Rattle.line.proofs.ReaderLaws.{reader-back}
 use Rattle.line.proofs.StaysGood.{good-line}
 use Rattle.listing.specs.Listing.{headerRow, recordRow, refusedRow, eventRow, strayRow}
-use Rattle.pages.specs.Pages.{rowFor, pageOf}
-use Rattle.pages.specs.Whole.{rowsOf}
-use Rattle.pages.proofs.PageLaws.{nothing-laid, refused-laid, page-refused}
-use Rattle.pages.proofs.RoomLaws.{call-ends-by-room}
+use Rattle.listing_of_lines.specs.Pages.{rowFor, pageOf}
+use Rattle.listing_of_lines.specs.Whole.{rowsOf}
+use Rattle.listing_of_lines.proofs.PageLaws.{nothing-laid, refused-laid, page-refused}
+use Rattle.listing_of_lines.proofs.RoomLaws.{call-ends-by-room}
 use Rattle.demands.specs.Numbers.{_givenWhen_, _refusedBy_, _byFirst_}
 use Rattle.demands.specs.Rules.{recordRules}
 use Rattle.demands.specs.Demand1OfTheListing.{rowRules, roomRules, TheHeaderRefuses, TheStrayLineRefuses, ARowRefuses, ARowForRefuses, ListingRefuses, ARefusedRowChangesNoByte, ARefusedStateIsNotListed}

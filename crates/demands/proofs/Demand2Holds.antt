@@ -7,8 +7,8 @@ use native.Mathlib.Omega.{arith}
 use lib.ListN.{length}
 use Rattle.refusals.specs.Refusals.{done, refused, unless, after}
 use Rattle.refusals.proofs.Laws.{does}
-use Rattle.laying.specs.Laying.{within, laidIn}
-use Rattle.laying.proofs.LayingLaws.{within-fits, within-done, within-refused}
+use Rattle.lent_buffer.specs.Laying.{within, laidIn}
+use Rattle.lent_buffer.proofs.LayingLaws.{within-fits, within-done, within-refused}
 use Rattle.places.specs.Places.{render}
 use Rattle.calendar.specs.TimeOfDay.{secondsOf, timeAfter, isLastSecond}
 use Rattle.calendar.proofs.Times as times

@@ -6,7 +6,7 @@ use lib.ListN.{length}
 use borrow.Author.Tests.{le-ltb}
 use Rattle.refusals.specs.Refusals.{done}
 use Rattle.refusals.proofs.Laws.{does}
-use Rattle.laying.specs.Laying.{laidIn}
+use Rattle.lent_buffer.specs.Laying.{laidIn}
 use Rattle.leitch.specs.declared.Reply.{Reply}
 use Rattle.leitch.specs.Reading.{replyOf}
 use Rattle.leitch.specs.Writing.{replyBytes, written}

@@ -25,7 +25,7 @@ use Rattle.line.proofs.LongerTelegramsHold.{up-to-38-bytes-are-held, stx-cuts-o
 use Rattle.takeover.specs.TakingOver.{keptPlaces, stateOf}
 use Rattle.takeover.specs.Sentences.{readerFor, lineKept}
 use Rattle.takeover.proofs.SentencesHold.{kept-good, the-old-bound-is-24, refuses-what-the-old-rule-refused, what-the-old-reader-left, a-refused-state-comes-back, more-held-is-15, taken-over-is-the-same, taken-over-is-well-formed, without-a-ten-nothing-differs, a-call-without-a-ten, the-end-is-the-same, without-a-ten-each-cut}
-use Rattle.pages.proofs.NumberLaws.{read-number}
+use Rattle.listing_of_lines.proofs.NumberLaws.{read-number}
 use Rattle.log.proofs.BlockLaws.{none-accepted-is-longer, that-many-fit-a-slot}
 use Rattle.demands.specs.LongerTelegrams.{LongerThan25Is1, AtTheFirstTenItHolds25, LongerTelegramsAreAsAskedFor}
 

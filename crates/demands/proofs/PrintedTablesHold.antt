@@ -11,12 +11,12 @@ use Rattle.clock.proofs.RunLaws.{last-as-printed as last-step-as-printed}
 use Rattle.board.proofs.AsPrintedHolds as board
 use Rattle.board.proofs.AsPrinted6038Holds.{of-6038-as-printed}
 use Rattle.listing.proofs.AsPrintedHolds as listing
-use Rattle.pages.proofs.AsPrintedHolds as pages
+use Rattle.listing_of_lines.proofs.AsPrintedHolds as pages
 use Rattle.leitch.proofs.AsPrintedHolds as leitch
 use Rattle.leitch.proofs.Spelled.{every-as-printed}
 use Rattle.requests.proofs.AsPrintedHolds as requests
 use Rattle.log.proofs.AsPrintedHolds as log
-use Rattle.logpages.proofs.AsPrintedHolds as logpages
+use Rattle.listing_of_logs.proofs.AsPrintedHolds as logpages
 use Rattle.demands.specs.PrintedTables.{AllIsAsPrinted}
 use Rattle.demands.proofs.BoundaryHolds.{boundary-table}
 

@@ -8,8 +8,8 @@ use lib.Dec.{ltb}
 use lib.ListN.{length}
 use Rattle.refusals.specs.Refusals.{_when_, _else_, Outcome, done, refused, unless, after}
 use Rattle.refusals.proofs.Laws.{else-assoc}
-use Rattle.laying.specs.Laying.{within}
-use Rattle.laying.proofs.LayingLaws.{within-unless, within-refused}
+use Rattle.lent_buffer.specs.Laying.{within}
+use Rattle.lent_buffer.proofs.LayingLaws.{within-unless, within-refused}
 use Rattle.places.specs.Places.{fixedHolds, decimalHolds, codeHolds, every}
 use Rattle.calendar.specs.Calendar.{dateInRange, dayExists, dayOf, dayAfter}
 use Rattle.calendar.specs.TimeOfDay.{timeInRange, secondsOf, isLastSecond, timeAfter}

@@ -8,7 +8,7 @@ use lib.Dec.{eqb}
 use lib.ListN.{length, take, length-append}
 use borrow.Author.Tests.{eqb-true}
 use Rattle.refusals.specs.Refusals.{Outcome, done, refused, unless, after}
-use Rattle.laying.specs.OneBehindAnother.{Next, oneBehindAnother}
+use Rattle.lent_buffer.specs.OneBehindAnother.{Next, oneBehindAnother}
 use Rattle.places.specs.Places.{Place, fixed, fixedHolds, every, byteAt, render}
 use Rattle.record.specs.declared.DatedLayout.the-variants.{L6021, L2000, L5500, L5050}
 use Rattle.record.specs.declared.TimeLayout.the-variants.{T6021, T5500, T5050}

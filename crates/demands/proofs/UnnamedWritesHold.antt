@@ -11,11 +11,11 @@ use lib.Seq.{take-at}
 use Rattle.refusals.specs.Refusals.{Outcome, done, refused, unless, after}
 use Rattle.refusals.specs.Tables.{EachHolds}
 use Rattle.refusals.proofs.Laws.{both, does, refuses, was-done}
-use Rattle.laying.specs.declared.Ending.the-variants.{Whole}
-use Rattle.laying.specs.Laying.{within, laid}
-use Rattle.laying.specs.OneBehindAnother.{joined, partThen, oneBehindAnother}
-use Rattle.laying.proofs.LayingLaws.{within-short, within-fits, within-refused, within-done}
-use Rattle.laying.proofs.OneBehindAnotherLaws.{no-part, first-part}
+use Rattle.lent_buffer.specs.declared.Ending.the-variants.{Whole}
+use Rattle.lent_buffer.specs.Laying.{within, laid}
+use Rattle.lent_buffer.specs.OneBehindAnother.{joined, partThen, oneBehindAnother}
+use Rattle.lent_buffer.proofs.LayingLaws.{within-short, within-fits, within-refused, within-done}
+use Rattle.lent_buffer.proofs.OneBehindAnotherLaws.{no-part, first-part}
 use Rattle.ascii.specs.Control.{stx, etx}
 use Rattle.places.specs.Places.{codeCharacter, render}
 use Rattle.calendar.specs.Calendar.{isLeap, monthLength, monthInRange, dateInRange, dayExists, monthStart, dayOf}

@@ -9,9 +9,9 @@ use Prim.Native.Nat.{ℕ, _-_}
 use lib.Dec.{leb}
 use lib.ListN.{length}
 use Rattle.refusals.specs.Refusals.{refused}
-use Rattle.laying.specs.declared.Ending.the-variants as ending
-use Rattle.laying.specs.Laying.{laid}
-use Rattle.laying.specs.Answers.{endingAnswer}
+use Rattle.lent_buffer.specs.declared.Ending.the-variants as ending
+use Rattle.lent_buffer.specs.Laying.{laid}
+use Rattle.lent_buffer.specs.Answers.{endingAnswer}
 use Rattle.calendar.specs.Calendar.{monthInRange, isLastDay, daysInMonth, dayNumber, dateOf, nextDay}
 use Rattle.calendar.specs.TimeOfDay.{timeInRange, secondOfDay, nextSecond}
 use Rattle.calendar.specs.declared.date.Date.{Date}

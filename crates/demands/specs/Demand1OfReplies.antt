@@ -7,7 +7,7 @@ use lib.Dec.{leb, ltb, eqb}
 use lib.ListN.{length}
 use Rattle.refusals.specs.Refusals.{refused}
 use Rattle.ascii.specs.Ascii.{ascii}
-use Rattle.laying.specs.Laying.{laid}
+use Rattle.lent_buffer.specs.Laying.{laid}
 use Rattle.places.specs.Places.{isDecimal, isCapital}
 use Rattle.calendar.specs.Calendar.{dateInRange, dayExists}
 use Rattle.calendar.specs.TimeOfDay.{timeInRange}

@@ -6,9 +6,9 @@ use Prim.Native.Nat.{ℕ}
 use lib.Dec.{ltb}
 use lib.ListN.{length}
 use Rattle.refusals.specs.Refusals.{done, refused}
-use Rattle.laying.specs.declared.Ending.the-variants as ending
-use Rattle.laying.specs.Laying.{laid}
-use Rattle.laying.specs.OneBehindAnother.{endingIn}
+use Rattle.lent_buffer.specs.declared.Ending.the-variants as ending
+use Rattle.lent_buffer.specs.Laying.{laid}
+use Rattle.lent_buffer.specs.OneBehindAnother.{endingIn}
 use Rattle.record.specs.declared.RecordAnswer.{RecordAnswer}
 use Rattle.record.specs.declared.RecordAnswer.the-variants as answer
 use Rattle.line.specs.declared.Reader.{Reader}
@@ -17,8 +17,8 @@ use Rattle.line.specs.declared.Heard.the-variants.{Nothing, Event, Refused}
 use Rattle.line.specs.Readers.{wellFormed, lineOf, AsDeclared}
 use Rattle.line.specs.Events.{eventsOf}
 use Rattle.listing.specs.Listing.{headerRow, recordRow, refusedRow, eventRow, strayRow}
-use Rattle.pages.specs.Pages.{rowFor, stopped, pageOf}
-use Rattle.pages.specs.Whole.{rowsOf}
+use Rattle.listing_of_lines.specs.Pages.{rowFor, stopped, pageOf}
+use Rattle.listing_of_lines.specs.Whole.{rowsOf}
 use Rattle.demands.specs.Numbers.{Rule, _givenWhen_, _refusedBy_, _doneOr_}
 use Rattle.demands.specs.Rules.{recordRules}
 

@@ -7,7 +7,7 @@ use mathlib.Core.Path.{_≡_}
 use Prim.Native.Nat.{ℕ, _+_, _%_, _≤_}
 use lib.ListN.{length, drop}
 use Rattle.refusals.specs.Refusals.{Outcome, done}
-use Rattle.laying.specs.Laying.{laidIn}
+use Rattle.lent_buffer.specs.Laying.{laidIn}
 use Rattle.places.specs.Places.{byteAt}
 use Rattle.calendar.specs.TimeOfDay.{secondsOf}
 use Rattle.calendar.specs.declared.time.Time.{Time}

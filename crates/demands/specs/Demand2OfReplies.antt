@@ -6,7 +6,7 @@ use mathlib.Core.Path.{_≡_}
 use Prim.Native.Nat.{ℕ, _≤_}
 use lib.ListN.{length, drop}
 use Rattle.refusals.specs.Refusals.{Outcome, done}
-use Rattle.laying.specs.Laying.{laidIn}
+use Rattle.lent_buffer.specs.Laying.{laidIn}
 use Rattle.leitch.specs.declared.Reply.{Reply}
 use Rattle.leitch.specs.Rule.{fieldsRefusal, dayRefusal}
 use Rattle.leitch.specs.AsPrinted.{asPrinted}

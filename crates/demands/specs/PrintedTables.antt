@@ -11,12 +11,12 @@ use Rattle.clock.specs.AsPrinted.{StepsAreAsPrinted, TheLastSixtyIsAsPrinted as
 use Rattle.board.specs.AsPrinted.{The6036IsAsPrinted}
 use Rattle.board.specs.AsPrinted6038.{The6038IsAsPrinted}
 use Rattle.listing.specs.AsPrinted.{TheListingIsAsPrinted}
-use Rattle.pages.specs.AsPrinted.{TheWholeListingIsAsPrinted}
+use Rattle.listing_of_lines.specs.AsPrinted.{TheWholeListingIsAsPrinted}
 use Rattle.leitch.specs.AsPrinted.{TheReplyIsAsPrinted, EveryReplyIsAsPrinted}
 use Rattle.requests.specs.AsPrinted.{RequestsAreAsPrinted}
 use Rattle.log.specs.AsPrinted.{TheLogIsAsPrinted}
 use Rattle.listing.specs.LogAsPrinted.{TheLogsListingsAreAsPrinted}
-use Rattle.logpages.specs.AsPrinted.{TheListingsOfALogAreAsPrinted}
+use Rattle.listing_of_logs.specs.AsPrinted.{TheListingsOfALogAreAsPrinted}
 use Rattle.demands.specs.Boundary.{TheBoundaryTableHolds}
 
 abbrev pub AllIsAsPrinted : Type 0

@@ -32,7 +32,7 @@ use Rattle.leitch.specs.Writing.{replyBytes}
 use Rattle.line.specs.Readers.{freshIn, freshReader}
 use Rattle.line.specs.ReaderSentences.{EveryOrderIsWellFormed, TheOrderStays}
 use Rattle.line.specs.SentLine.{Sent, bytesSent}
-use Rattle.pages.specs.Whole.{listingIn, listingOf}
+use Rattle.listing_of_lines.specs.Whole.{listingIn, listingOf}
 use Rattle.demands.specs.Programs.{reads, writes}
 use Rattle.demands.specs.ProgramsOfTheLog.{adds}
 use Rattle.demands.specs.Lengths.{sevenLayouts, lengthOf}

@@ -8,9 +8,9 @@ use Prim.Native.Nat.{ℕ, _+_, _-_, _*_, _%_, _^_, _≤_, _<_}
 use lib.ListN.{length, take}
 use Rattle.refusals.specs.Refusals.{Outcome, done, refused, after}
 use Rattle.refusals.specs.Tables.{EachHolds}
-use Rattle.laying.specs.declared.Ending.the-variants.{Whole}
-use Rattle.laying.specs.Laying.{within, laid}
-use Rattle.laying.specs.OneBehindAnother.{Next, nothing, part, oneBehindAnother}
+use Rattle.lent_buffer.specs.declared.Ending.the-variants.{Whole}
+use Rattle.lent_buffer.specs.Laying.{within, laid}
+use Rattle.lent_buffer.specs.OneBehindAnother.{Next, nothing, part, oneBehindAnother}
 use Rattle.ascii.specs.Ascii.{ascii}
 use Rattle.ascii.specs.Control.{stx, etx, lfCr}
 use Rattle.calendar.specs.Literals.{date, time}

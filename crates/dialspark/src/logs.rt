@@ -5,9 +5,9 @@ use listing::LONGEST_LOG_ROW;
 use listing::RowAnswer;
 use listing::log_rows;
 use log::BLOCK_SIZE;
-use logpages::PAGE;
-use printing::Output;
-use printing::print_row;
+use listing_of_logs::PAGE;
+use listing_output::Output;
+use listing_output::print_row;
 use refusals::NOT_WHOLE_BLOCKS;
 
 // What is listed: a row for each telegram of the good blocks, or a row for each block.
@@ -85,7 +85,7 @@ struct Printed {
 // A bad block has a row of its own there, so that it need not be counted.
 fn print_telegrams(number: u64, block: &[u8]) -> Printed {
     let mut out = [0u8; PAGE];
-    let made = logpages::rows_of(number, block, &mut out);
+    let made = listing_of_logs::rows_of(number, block, &mut out);
     Printed {
         good: true,
         output: print_row(made, &out),
@@ -94,7 +94,7 @@ fn print_telegrams(number: u64, block: &[u8]) -> Printed {
 
 fn print_verified(number: u64, block: &[u8]) -> Printed {
     let mut out = [0u8; LONGEST_LOG_ROW];
-    let verified = logpages::verified_row(number, block, &mut out);
+    let verified = listing_of_logs::verified_row(number, block, &mut out);
     let made = verified.row;
     Printed {
         good: verified.good,
@@ -132,7 +132,7 @@ fn lay_tail(rows: Rows, number: u64, out: &mut [u8]) -> RowAnswer {
     match rows {
         Rows::Telegrams => log_rows::block_row(number, NOT_WHOLE_BLOCKS, out),
         Rows::Blocks => {
-            log_rows::tail_row(number, logpages::offset_of(number), NOT_WHOLE_BLOCKS, out)
+            log_rows::tail_row(number, listing_of_logs::offset_of(number), NOT_WHOLE_BLOCKS, out)
         }
     }
 }

@@ -9,8 +9,8 @@ use borrow.Author.Tests.{lt-ltb, le-ltb}
 use Rattle.refusals.specs.Refusals.{done, refused, unless}
 use Rattle.refusals.proofs.Laws.{refuses, refuses-first, does}
 use Rattle.places.specs.Places.{place, render, over}
-use Rattle.laying.specs.Laying.{laid}
-use Rattle.laying.proofs.LayingLaws.{laid-fits, laid-refused}
+use Rattle.lent_buffer.specs.Laying.{laid}
+use Rattle.lent_buffer.proofs.LayingLaws.{laid-fits, laid-refused}
 use Rattle.leitch.specs.declared.Reply.{Reply}
 use Rattle.leitch.specs.Row.{rowNumbers}
 use Rattle.leitch.specs.Coding.{digitsOut}

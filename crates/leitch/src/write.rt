@@ -9,7 +9,7 @@ use refusals::BUFFER_SHORT;
 use refusals::NONE;
 ghost use mathlib.Core.Path.{_≡_};
 ghost use lib.ListN.{length};
-ghost use Rattle.laying.specs.Laying.{laid};
+ghost use Rattle.lent_buffer.specs.Laying.{laid};
 ghost use Rattle.leitch.specs.Writing.{written};
 ghost use Rattle.leitch.specs.Answers.{writeAnswer};
 

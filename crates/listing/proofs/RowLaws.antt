@@ -8,8 +8,8 @@ use lib.Dec.{lit≤}
 use lib.ListN.{length, length-append}
 use Rattle.refusals.specs.Refusals.{done, refused, unless}
 use Rattle.refusals.proofs.Laws.{refuses, does}
-use Rattle.laying.specs.Laying.{laid}
-use Rattle.laying.proofs.LayingLaws.{laid-refused}
+use Rattle.lent_buffer.specs.Laying.{laid}
+use Rattle.lent_buffer.proofs.LayingLaws.{laid-refused}
 use Rattle.calendar.specs.declared.date.Date.{Date}
 use Rattle.calendar.specs.declared.time.Time.{Time}
 use Rattle.record.specs.declared.DatedLayout.{DatedLayout}

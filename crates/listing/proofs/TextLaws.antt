@@ -8,8 +8,8 @@ use lib.ListN.{length, take, drop, getD, set, length-set, length-append, drop-of
 use lib.Seq.{take-suc, take-suc-set, drop-cons, set-at, length-take-le, append-snoc}
 use borrow.Author.Tests.{lt-ltb}
 use Rattle.refusals.specs.Refusals.{Outcome, done, refused}
-use Rattle.laying.specs.Laying.{laid}
-use Rattle.laying.proofs.LayingLaws.{laid-short, laid-fits}
+use Rattle.lent_buffer.specs.Laying.{laid}
+use Rattle.lent_buffer.proofs.LayingLaws.{laid-short, laid-fits}
 use Rattle.listing.specs.declared.Text.{Text}
 use Rattle.listing.specs.Texts.{textRoom, emptyText, pushed, appended, contentOf}
 

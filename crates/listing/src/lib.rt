@@ -8,7 +8,7 @@ ghost use mathlib.Core.Bool.{cond};
 ghost use mathlib.Core.List.{[], _∷_};
 ghost use Prim.Native.Nat.{_≤_};
 ghost use Rattle.refusals.specs.Refusals.{done};
-ghost use Rattle.laying.specs.Laying.{laid};
+ghost use Rattle.lent_buffer.specs.Laying.{laid};
 ghost use Rattle.listing.specs.Decimals.{digit, two, four, decimal};
 ghost use Rattle.listing.specs.Texts.{textRoom, emptyText, appended, contentOf};
 ghost use Rattle.listing.specs.Answers.{rowAnswer};

@@ -7,7 +7,7 @@ use record::Record;
 use refusals::NONE;
 ghost use mathlib.Core.Path.{_≡_};
 ghost use Rattle.refusals.specs.Refusals.{done};
-ghost use Rattle.laying.specs.Laying.{laid};
+ghost use Rattle.lent_buffer.specs.Laying.{laid};
 ghost use Rattle.listing.specs.LogRows.{logHeader, slotRow, telegramRow, blockRow, verifyHeader, blockColumns, goodRow, badRow, tailRow, badCount};
 ghost use Rattle.listing.specs.Texts.{emptyText, appended};
 ghost use Rattle.listing.specs.Answers.{rowAnswer};

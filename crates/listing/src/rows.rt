@@ -13,7 +13,7 @@ use record::TimeLayout;
 use refusals::NONE;
 ghost use mathlib.Core.Path.{_≡_};
 ghost use Rattle.refusals.specs.Refusals.{done};
-ghost use Rattle.laying.specs.Laying.{laid};
+ghost use Rattle.lent_buffer.specs.Laying.{laid};
 ghost use Rattle.listing.specs.Listing.{headerRow, datedKind, timeKind, dateColumn, timeColumn, receptionWord, seasonWord, statusColumn, datedColumns, timeOnlyColumns, columns, recordRow, refusedRow, eventRow, strayRow};
 ghost use Rattle.listing.specs.Texts.{emptyText, appended};
 ghost use Rattle.listing.specs.Answers.{rowAnswer};

@@ -8,7 +8,7 @@ use native.Mathlib.Omega.{arith}
 use lib.ListN.{length, take, drop, getD, set}
 use lib.Seq.{paste, paste-suc, take-length}
 use borrow.Rule.Slice.PartMut.{putMid}
-use Rattle.laying.proofs.TailLaws.{tail-lent, tail-back}
+use Rattle.lent_buffer.proofs.TailLaws.{tail-lent, tail-back}
 use Rattle.log.specs.Block.{slots, slotSize, countPlace, checkPlace, blockSize, sealed}
 use Rattle.log.specs.Good.{countIn, readsWell, isGood}
 use Rattle.log.specs.Add.{entered}

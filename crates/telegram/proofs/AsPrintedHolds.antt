@@ -1,7 +1,7 @@
 -- What a write makes is as printed, computed from the definitions. Assumes nothing.
 use mathlib.Core.Path.{refl}
 use Rattle.refusals.specs.Refusals.{unless}
-use Rattle.laying.specs.Laying.{within}
+use Rattle.lent_buffer.specs.Laying.{within}
 use Rattle.places.specs.Places.{codeCharacter, render}
 use Rattle.calendar.specs.Calendar.{isLeap, monthLength, monthInRange, dateInRange, dayExists, monthStart, dayOf}
 use Rattle.calendar.specs.TimeOfDay.{timeInRange, timeAfter, isLastSecond}

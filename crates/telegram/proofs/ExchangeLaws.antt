@@ -9,8 +9,8 @@ use lib.ListN.{length, take, drop, length-take, length-drop}
 use lib.Seq.{take-all}
 use borrow.Author.Tests.{ne-eqb, ltb-true, ltb-false}
 use Rattle.refusals.specs.Refusals.{done, refused}
-use Rattle.laying.specs.Laying.{laid}
-use Rattle.laying.proofs.LayingLaws.{laid-short, laid-fits, within-done, stands}
+use Rattle.lent_buffer.specs.Laying.{laid}
+use Rattle.lent_buffer.proofs.LayingLaws.{laid-short, laid-fits, within-done, stands}
 use Rattle.trailer.specs.declared.Order.{Order}
 use Rattle.trailer.specs.declared.Order.the-variants.{AsPrinted, Exchanged}
 use Rattle.trailer.specs.Trailer.{trailerAt, exchangeAt}

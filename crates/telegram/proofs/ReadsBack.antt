@@ -6,7 +6,7 @@ use Prim.Native.Nat.{ℕ}
 use native.Mathlib.Omega.{arith}
 use Rattle.refusals.specs.Refusals.{Outcome, done, refused, after}
 use Rattle.refusals.proofs.Laws.{was-done}
-use Rattle.laying.proofs.LayingLaws.{within-done}
+use Rattle.lent_buffer.proofs.LayingLaws.{within-done}
 use Rattle.record.specs.declared.Record.{Record}
 use Rattle.record.specs.declared.Record.the-variants.{Dated, TimeOnly}
 use Rattle.record.specs.declared.DatedLayout.the-variants.{L6021}

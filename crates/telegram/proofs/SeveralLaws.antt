@@ -7,13 +7,13 @@ use native.Mathlib.Omega.{arith}
 use lib.ListN.{length, take, drop, length-append, length-drop}
 use borrow.Rule.Slice.PartMut.{putMid}
 use Rattle.refusals.specs.Refusals.{Outcome, done, refused}
-use Rattle.laying.specs.declared.Ending.{Ending}
-use Rattle.laying.specs.declared.Ending.the-variants.{Whole, Refused}
-use Rattle.laying.specs.Laying.{within, laidIn, laid}
-use Rattle.laying.specs.OneBehindAnother.{Standing, joined, partThen, oneBehindAnother}
-use Rattle.laying.proofs.LayingLaws.{stands, stops}
-use Rattle.laying.proofs.TailLaws.{tail-lent, tail-back}
-use Rattle.laying.proofs.OneBehindAnotherLaws.{no-part, first-part, Laying, Ended, none-yet, no-more, part-stops, part-stands}
+use Rattle.lent_buffer.specs.declared.Ending.{Ending}
+use Rattle.lent_buffer.specs.declared.Ending.the-variants.{Whole, Refused}
+use Rattle.lent_buffer.specs.Laying.{within, laidIn, laid}
+use Rattle.lent_buffer.specs.OneBehindAnother.{Standing, joined, partThen, oneBehindAnother}
+use Rattle.lent_buffer.proofs.LayingLaws.{stands, stops}
+use Rattle.lent_buffer.proofs.TailLaws.{tail-lent, tail-back}
+use Rattle.lent_buffer.proofs.OneBehindAnotherLaws.{no-part, first-part, Laying, Ended, none-yet, no-more, part-stops, part-stands}
 use Rattle.record.specs.declared.Record.{Record}
 use Rattle.telegram.specs.declared.write.Choice.{Choice}
 use Rattle.telegram.specs.declared.several.Several.{Several}

@@ -3,10 +3,10 @@ use mathlib.Core.List.{List, [], _∷_, _++_}
 use Prim.Native.Nat.{ℕ, _+_, _-_, _%_, _^_}
 use lib.ListN.{length, take, drop}
 use Rattle.refusals.specs.Refusals.{done}
-use Rattle.laying.specs.declared.Ending.{Ending}
-use Rattle.laying.specs.declared.Ending.the-variants.{Whole, Refused}
-use Rattle.laying.specs.Laying.{laidIn}
-use Rattle.laying.specs.OneBehindAnother.{Standing, joined}
+use Rattle.lent_buffer.specs.declared.Ending.{Ending}
+use Rattle.lent_buffer.specs.declared.Ending.the-variants.{Whole, Refused}
+use Rattle.lent_buffer.specs.Laying.{laidIn}
+use Rattle.lent_buffer.specs.OneBehindAnother.{Standing, joined}
 use Rattle.record.specs.declared.Record.{Record}
 use Rattle.telegram.specs.declared.write.Choice.{Choice}
 use Rattle.telegram.specs.declared.several.Several.{Several}

@@ -4,8 +4,8 @@ use mathlib.Core.List.{List, [], _∷_, _++_}
 use Prim.Native.Nat.{ℕ}
 use lib.ListN.{length}
 use Rattle.refusals.specs.Refusals.{Outcome, done, refused, unless, after}
-use Rattle.laying.specs.Laying.{within}
-use Rattle.laying.specs.OneBehindAnother.{Next, nothing, part, Standing, oneBehindAnother}
+use Rattle.lent_buffer.specs.Laying.{within}
+use Rattle.lent_buffer.specs.OneBehindAnother.{Next, nothing, part, Standing, oneBehindAnother}
 use Rattle.ascii.specs.Control.{stx, etx}
 use Rattle.trailer.specs.declared.Order.{Order}
 use Rattle.trailer.specs.declared.Order.the-variants.{AsPrinted}

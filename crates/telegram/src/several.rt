@@ -2,7 +2,7 @@
 use super::write::Choice;
 use super::write::WriteAnswer;
 use super::write::write;
-use laying::Ending;
+use lent_buffer::Ending;
 use record::Record;
 ghost use mathlib.Core.Path.{_≡_};
 ghost use mathlib.Core.List.{[], _∷_};

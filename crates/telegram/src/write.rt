@@ -15,7 +15,7 @@ use trailer::place_in;
 ghost use mathlib.Core.Path.{_≡_};
 ghost use mathlib.Core.Bool.{true, false};
 ghost use Rattle.refusals.specs.Refusals.{done};
-ghost use Rattle.laying.specs.Laying.{laid};
+ghost use Rattle.lent_buffer.specs.Laying.{laid};
 ghost use Rattle.record.specs.Answers.{recordAnswer};
 ghost use Rattle.layouts.specs.Layouts.{spanOf, ownLayout};
 ghost use Rattle.trailer.specs.declared.Order.the-variants.{Exchanged};

@@ -5,7 +5,7 @@ use Prim.Native.Nat.{_-_, _≤_}
 use native.Mathlib.Omega.{arith}
 use lib.ListN.{length, take, drop, getD, replicate, length-map, length-set, take-append-drop}
 use lib.Seq.{take-all, drop-set-lt}
-use Rattle.laying.proofs.CopyLaws.{copy-step}
+use Rattle.lent_buffer.proofs.CopyLaws.{copy-step}
 use Rattle.line.specs.Readers.{readerWith}
 use Rattle.line.specs.Line.{places}
 use Rattle.takeover.specs.TakingOver.{keptPlaces}

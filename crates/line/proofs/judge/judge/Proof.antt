@@ -7,7 +7,7 @@ use lib.ListN.{length, length-set, take, getD}
 use Rattle.telegram.specs.Reading.{readIn}
 use Rattle.ascii.specs.Control.{etx}
 use Rattle.line.specs.Line.{places}
-use Rattle.laying.proofs.CopyLaws.{copy-step}
+use Rattle.lent_buffer.proofs.CopyLaws.{copy-step}
 use Rattle.line.proofs.Copies.{closed}
 use Rattle.line.proofs.judge.judge.Statement.{statement}
 use Rattle.line.proofs.judge.judge.Tie as tie

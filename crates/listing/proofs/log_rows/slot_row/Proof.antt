@@ -1,7 +1,7 @@
 -- `listing::log_rows::slot_row` meets its contract.
 use mathlib.Core.Path.{ap, _∙_}
 use native.Mathlib.Omega.{arith}
-use Rattle.laying.specs.Laying.{laid}
+use Rattle.lent_buffer.specs.Laying.{laid}
 use Rattle.listing.specs.LogRows.{slotRow}
 use Rattle.listing.proofs.TextLaws.{small-enough, row-laid}
 use Rattle.listing.proofs.RowLaws.{rule-refuses, rule-passes}

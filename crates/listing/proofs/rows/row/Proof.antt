@@ -1,7 +1,7 @@
 -- `listing::rows::row` meets its contract.
 use mathlib.Core.Path.{ap, _∙_}
 use native.Mathlib.Omega.{arith}
-use Rattle.laying.specs.Laying.{laid}
+use Rattle.lent_buffer.specs.Laying.{laid}
 use Rattle.listing.specs.Listing.{recordRow, eventRow}
 use Rattle.listing.proofs.TextLaws.{small-enough, row-laid}
 use Rattle.listing.proofs.RowLaws.{rule-refuses, rule-passes, record-short, refused-short}

@@ -4,7 +4,7 @@ use Prim.Native.Nat.{_-_, _≤_}
 use native.Mathlib.Omega.{arith}
 use lib.ListN.{length, length-set, take, getD}
 use borrow.Author.Needs.{needs}
-use Rattle.laying.proofs.CopyLaws.{copy-step}
+use Rattle.lent_buffer.proofs.CopyLaws.{copy-step}
 use Rattle.telegram.proofs.ExchangeLaws.{too-long, copy-read}
 use Rattle.trailer.specs.Trailer.{exchangeAt}
 use Rattle.telegram.specs.Reading.{readOf}

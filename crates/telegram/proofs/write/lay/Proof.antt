@@ -1,7 +1,7 @@
 -- `telegram::write::lay` meets its contract.
 use mathlib.Core.Path.{ap, _∙_}
 use Rattle.refusals.specs.Refusals.{done}
-use Rattle.laying.specs.Laying.{laid}
+use Rattle.lent_buffer.specs.Laying.{laid}
 use Rattle.telegram.specs.Writing.{telegramOf}
 use borrow.Author.Needs.{needs}
 use Rattle.telegram.proofs.write.lay.Statement.{statement}

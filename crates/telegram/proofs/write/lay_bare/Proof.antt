@@ -5,7 +5,7 @@ use Prim.Native.Nat.{_≤_}
 use native.Mathlib.Omega.{arith}
 use lib.ListN.{length}
 use Rattle.refusals.specs.Refusals.{done}
-use Rattle.laying.proofs.LayingLaws.{laid-short, laid-fits}
+use Rattle.lent_buffer.proofs.LayingLaws.{laid-short, laid-fits}
 use Rattle.layouts.proofs.RowLaws.{span-ends, span-within}
 use Rattle.telegram.specs.Writing.{bodyBytes, telegramOf}
 use Rattle.telegram.proofs.WriteLaws.{span-size, body-laid, over-room}

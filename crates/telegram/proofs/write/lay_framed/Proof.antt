@@ -7,7 +7,7 @@ use native.Mathlib.Omega.{arith}
 use lib.ListN.{length, drop, set, length-set}
 use borrow.Rule.Slice.PartMut.{putMid}
 use Rattle.refusals.specs.Refusals.{done}
-use Rattle.laying.proofs.LayingLaws.{laid-short, laid-fits}
+use Rattle.lent_buffer.proofs.LayingLaws.{laid-short, laid-fits}
 use Rattle.layouts.proofs.RowLaws.{span-ends, span-within}
 use Rattle.telegram.specs.Writing.{bodyBytes, telegramOf}
 use Rattle.telegram.proofs.WriteLaws.{span-size, span-small, length-framed, body-laid, length-framing, framed-laid}

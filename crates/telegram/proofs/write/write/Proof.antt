@@ -1,7 +1,7 @@
 -- `telegram::write::write` meets its contract.
 use mathlib.Core.Path.{sym, ap, _∙_}
-use Rattle.laying.specs.Laying.{laid}
-use Rattle.laying.proofs.LayingLaws.{laid-refused}
+use Rattle.lent_buffer.specs.Laying.{laid}
+use Rattle.lent_buffer.proofs.LayingLaws.{laid-refused}
 use Rattle.record.specs.Answers.{recordAnswer}
 use Rattle.telegram.proofs.WriteLaws.{telegram-refused, telegram-made}
 use borrow.Author.Needs.{needs}

@@ -2,8 +2,8 @@
 use mathlib.Core.Path.{ap, _∙_}
 use native.Mathlib.Omega.{arith}
 use lib.ListN.{length}
-use Rattle.laying.proofs.LayingLaws.{within-done, stands}
-use Rattle.laying.proofs.TailLaws.{tail-lent, tail-length}
+use Rattle.lent_buffer.proofs.LayingLaws.{within-done, stands}
+use Rattle.lent_buffer.proofs.TailLaws.{tail-lent, tail-length}
 use Rattle.telegram.specs.Answers.{writeAnswer}
 use Rattle.telegram.specs.Writing.{telegramFor}
 use Rattle.telegram.proofs.SeveralLaws.{ended-before, one-stands, one-stops}
