@@ -1,12 +1,1 @@
-pub mod Switches
-pub mod Rates
-pub mod Settings
-pub mod Of6036
-pub mod Of6038
 pub mod Parities
-pub mod Answers
-pub mod RoundTrip
-pub mod RoundTrip6038
-pub mod Rows
-pub mod AsPrinted
-pub mod AsPrinted6038

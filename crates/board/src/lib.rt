@@ -3,28 +3,17 @@
 pub mod of_6036;
 pub mod of_6038;
 
+pub use board_rules::ByteAnswer;
+pub use board_rules::Parity;
 ghost use mathlib.Core.Path.{_≡_};
 ghost use mathlib.Core.Bool.{cond, _||_};
 ghost use mathlib.Core.List.{[], _∷_};
 ghost use Prim.Native.Nat.{_*_, _≤_};
 ghost use lib.Dec.{eqb};
 ghost use Rattle.bits.specs.Bits.{bit};
-ghost use Rattle.board.specs.Switches.{byteOf};
-ghost use Rattle.board.specs.Rates.{rateAt, rateRow};
-ghost use Rattle.board.specs.Settings.{atParity, isOffered};
-
-// The parity bit of a character.
-pub enum Parity {
-    None,
-    Even,
-    Odd,
-}
-
-// The byte of a setting, or the number that refuses it.
-pub enum ByteAnswer {
-    Byte(u8),
-    Refused(u8),
-}
+ghost use Rattle.board_rules.specs.Switches.{byteOf};
+ghost use Rattle.board_rules.specs.Rates.{rateAt, rateRow};
+ghost use Rattle.board_rules.specs.Settings.{atParity, isOffered};
 
 // What each switch weighs in the byte. Switch 1 is the lowest bit.
 const SWITCH_1: u8 = 1;

@@ -15,20 +15,11 @@ use super::is_offered;
 use super::pick;
 use super::rate_at;
 use super::row_of;
+pub use board_rules::of_6036::Parameter;
 use refusals::NOT_OFFERED;
 ghost use mathlib.Core.Path.{_≡_};
-ghost use Rattle.board.specs.Of6036.{parityIn, parameterIn, byteFor};
-ghost use Rattle.board.specs.Answers.{byteAnswer};
-
-// How the board sends: in UTC or in CET and CEST, and in which form. Data bits, stop bits and baud are plain numbers, so that a
-// caller can ask for what the board does not offer, and is refused.
-pub struct Parameter {
-    pub utc: bool,
-    pub data_bits: u8,
-    pub parity: Parity,
-    pub stop_bits: u8,
-    pub baud: u32,
-}
+ghost use Rattle.board_rules.specs.Of6036.{parityIn, parameterIn, byteFor};
+ghost use Rattle.board_rules.specs.Answers.{byteAnswer};
 
 // Switch 4 counts only where switch 3 is off.
 fn parity_in(byte: u8) -> Parity

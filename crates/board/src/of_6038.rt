@@ -14,26 +14,13 @@ use super::is_offered;
 use super::pick;
 use super::rate_at;
 use super::row_of;
+pub use board_rules::of_6038::Parameter;
+pub use board_rules::of_6038::ParameterAnswer;
 use refusals::NOT_OFFERED;
 ghost use mathlib.Core.Path.{_≡_};
-ghost use Rattle.board.specs.Of6038.{parityIn, parameterIn, byteFor};
+ghost use Rattle.board_rules.specs.Of6038.{parityIn, parameterIn, byteFor};
 ghost use Rattle.board.specs.Parities.{parityAnswer};
-ghost use Rattle.board.specs.Answers.{byteAnswer, parameterAnswer};
-
-// In which form the board sends, in plain numbers as on the 6036. Whether in UTC this byte does not say: another one of the board's
-// does.
-pub struct Parameter {
-    pub data_bits: u8,
-    pub parity: Parity,
-    pub stop_bits: u8,
-    pub baud: u32,
-}
-
-// The setting of a byte, or the number that refuses it.
-pub enum ParameterAnswer {
-    Setting(Parameter),
-    Refused(u8),
-}
+ghost use Rattle.board_rules.specs.Answers.{byteAnswer, parameterAnswer};
 
 // The parity of a byte, or the number that refuses it.
 enum ParityAnswer {

@@ -1,39 +1,18 @@
 // Dates, day numbers and weekdays. Day 0 is 1 January 1980.
 use super::inside;
 use super::month_starts::month_starts;
+pub use calendar_rules::date::Date;
+pub use calendar_rules::date::DateAnswer;
+pub use calendar_rules::date::DayAnswer;
+pub use calendar_rules::date::DaysAnswer;
 use refusals::NO_SUCH_DAY;
 use refusals::NONE;
 use refusals::OUT_OF_RANGE;
 use refusals::OUTSIDE_CALENDAR;
 ghost use mathlib.Core.Path.{_≡_};
 ghost use Prim.Native.Nat.{_<_};
-ghost use Rattle.calendar.specs.Calendar.{isLeap, monthLength, monthInRange, dateRefusal, daysInMonth, dayNumber, monthHolding, monthStart, dateOf, weekdayOf, nextDay};
-ghost use Rattle.calendar.specs.Answers.{daysAnswer, dayAnswer, dateAnswer};
-
-// A date as a telegram carries it; whether the calendar has it is asked by each function.
-pub struct Date {
-    pub year: u16,
-    pub month: u8,
-    pub day: u8,
-}
-
-// How many days, or the number that refuses the month.
-pub enum DaysAnswer {
-    Days(u8),
-    Refused(u8),
-}
-
-// A day number, or the number that refuses the date.
-pub enum DayAnswer {
-    Day(u32),
-    Refused(u8),
-}
-
-// A date, or the number that refuses what was asked.
-pub enum DateAnswer {
-    Found(Date),
-    Refused(u8),
-}
+ghost use Rattle.calendar_rules.specs.Calendar.{isLeap, monthLength, monthInRange, dateRefusal, daysInMonth, dayNumber, monthHolding, monthStart, dateOf, weekdayOf, nextDay};
+ghost use Rattle.calendar_rules.specs.Answers.{daysAnswer, dayAnswer, dateAnswer};
 
 // Every fourth year; of the full hundreds, every fourth.
 fn is_leap(year: u16) -> bool

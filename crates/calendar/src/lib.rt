@@ -6,7 +6,7 @@ pub mod time;
 pub mod year;
 
 ghost use mathlib.Core.Path.{_≡_};
-ghost use Rattle.calendar.specs.Ranges.{inside};
+ghost use Rattle.calendar_rules.specs.Ranges.{inside};
 
 // Whether low, x and high stand in that order.
 fn inside(low: u16, x: u16, high: u16) -> bool

@@ -1,6 +1,6 @@
 // The table of month starts.
 ghost use mathlib.Core.Path.{_≡_};
-ghost use Rattle.calendar.specs.Calendar.{monthStarts};
+ghost use Rattle.calendar_rules.specs.Calendar.{monthStarts};
 
 // The day number of each month's first day, from January 1980 to December 2079.
 pub(crate) fn month_starts() -> [u16; 1200]

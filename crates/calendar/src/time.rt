@@ -1,29 +1,12 @@
 // The time of day.
 use super::inside;
+pub use calendar_rules::time::NextSecondAnswer;
+pub use calendar_rules::time::SecondAnswer;
+pub use calendar_rules::time::Time;
 use refusals::OUT_OF_RANGE;
 ghost use mathlib.Core.Path.{_≡_};
-ghost use Rattle.calendar.specs.TimeOfDay.{timeInRange, secondOfDay, nextSecond};
-ghost use Rattle.calendar.specs.Answers.{secondAnswer, nextSecondAnswer};
-
-// A time as a telegram carries it; whether the day has it is asked by each function.
-pub struct Time {
-    pub hour: u8,
-    pub minute: u8,
-    pub second: u8,
-}
-
-// The second of the day, or the number that refuses the time.
-pub enum SecondAnswer {
-    Second(u32),
-    Refused(u8),
-}
-
-// The next second, and whether it belongs to the same day or to the next.
-pub enum NextSecondAnswer {
-    SameDay(Time),
-    NextDay(Time),
-    Refused(u8),
-}
+ghost use Rattle.calendar_rules.specs.TimeOfDay.{timeInRange, secondOfDay, nextSecond};
+ghost use Rattle.calendar_rules.specs.Answers.{secondAnswer, nextSecondAnswer};
 
 // Whether the day has this time. Its seconds end at 59.
 pub fn time_in_range(time: Time) -> bool

@@ -3,15 +3,10 @@ use super::date::Date;
 use super::date::DayAnswer;
 use super::date::day_number;
 use super::month_starts::month_starts;
+pub use calendar_rules::year::YearDayAnswer;
 ghost use mathlib.Core.Path.{_≡_};
-ghost use Rattle.calendar.specs.DayOfYear.{dayOfYear};
-ghost use Rattle.calendar.specs.Answers.{yearDayAnswer};
-
-// A day of the year, or the number that refuses the date.
-pub enum YearDayAnswer {
-    Day(u16),
-    Refused(u8),
-}
+ghost use Rattle.calendar_rules.specs.DayOfYear.{dayOfYear};
+ghost use Rattle.calendar_rules.specs.Answers.{yearDayAnswer};
 
 // The day of the year of a date: 1 January is 1; 6 or 7 for a date that the calendar does not have.
 pub fn day_of_year(date: Date) -> YearDayAnswer

@@ -1,13 +1,13 @@
 -- What documents 01 and 02 say of the station clock holds of literal records, computed from the definitions. Assumes nothing.
 use mathlib.Core.Path.{refl}
 use Rattle.refusals.specs.Refusals.{unless}
-use Rattle.calendar.specs.Calendar.{isLeap, monthLength, monthInRange, dateInRange, dayExists, dateRefusal, monthStart, dayOf, dayNumber, seek, monthHolding, dateAt, isLastDay, dayAfter}
-use Rattle.calendar.specs.TimeOfDay.{timeInRange, timeRefusal, secondsOf, secondOfDay, isLastSecond, timeAfter}
-use Rattle.record.specs.Season.{seasonShift, toUtc}
-use Rattle.record.specs.Moment.{momentOf}
-use Rattle.record.specs.Sixty.{sixtyBehind59, takesSixty, upTo59}
-use Rattle.record.specs.Rule.{statusAllowed, weekdayAllowed, weekdayAgrees, timeAllowed, timeAloneAllowed, timeAloneRefusal, datedRefusal}
-use Rattle.record.specs.Next.{nextSecondOf}
+use Rattle.calendar_rules.specs.Calendar.{isLeap, monthLength, monthInRange, dateInRange, dayExists, dateRefusal, monthStart, dayOf, dayNumber, seek, monthHolding, dateAt, isLastDay, dayAfter}
+use Rattle.calendar_rules.specs.TimeOfDay.{timeInRange, timeRefusal, secondsOf, secondOfDay, isLastSecond, timeAfter}
+use Rattle.record_rules.specs.Season.{seasonShift, toUtc}
+use Rattle.record_rules.specs.Moment.{momentOf}
+use Rattle.record_rules.specs.Sixty.{sixtyBehind59, takesSixty, upTo59}
+use Rattle.record_rules.specs.Rule.{statusAllowed, weekdayAllowed, weekdayAgrees, timeAllowed, timeAloneAllowed, timeAloneRefusal, datedRefusal}
+use Rattle.record_rules.specs.Next.{nextSecondOf}
 use Rattle.clock.specs.Stepping.{clockSecond, stepOf}
 use Rattle.clock.specs.AsPrinted.{StepsAreAsPrinted}
 

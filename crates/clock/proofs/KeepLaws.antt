@@ -5,22 +5,22 @@ use Prim.Native.Nat.{ℕ, zero, suc, _+_, _<_}
 use native.Mathlib.Omega.{arith}
 use Rattle.refusals.specs.Refusals.{_when_, _else_, Outcome, done, refused, after}
 use Rattle.refusals.proofs.Laws.{was-done}
-use Rattle.calendar.specs.Calendar.{dayAfter}
-use Rattle.calendar.specs.TimeOfDay.{isLastSecond, timeAfter}
-use Rattle.record.specs.declared.Status.{Status}
-use Rattle.record.specs.declared.Record.{Record}
-use Rattle.record.specs.declared.Record.the-variants.{Dated, TimeOnly}
-use Rattle.record.specs.declared.season.UtcSeconds.{UtcSeconds}
-use Rattle.record.specs.declared.season.Count.{Count}
-use Rattle.record.specs.Season.{secondsLater, secondsIn, calendarSeconds}
-use Rattle.record.specs.Sixty.{upTo59}
-use Rattle.record.specs.Rule.{refusalOf}
-use Rattle.record.specs.Next.{weekdayAfter, recordAfter, isLastOfCalendar, nextSecondOf}
-use Rattle.record.specs.Moment.{inUtc}
-use Rattle.record.specs.Utc.{countOf, utcSeconds}
-use Rattle.record.specs.Following.{secondsOn}
-use Rattle.record.proofs.UtcLaws.{seconds-in-later, count-within, had-count, utc-later}
-use Rattle.record.proofs.FollowingLaws.{next-is-later}
+use Rattle.calendar_rules.specs.Calendar.{dayAfter}
+use Rattle.calendar_rules.specs.TimeOfDay.{isLastSecond, timeAfter}
+use Rattle.record_rules.specs.declared.Status.{Status}
+use Rattle.record_rules.specs.declared.Record.{Record}
+use Rattle.record_rules.specs.declared.Record.the-variants.{Dated, TimeOnly}
+use Rattle.record_rules.specs.declared.season.UtcSeconds.{UtcSeconds}
+use Rattle.record_rules.specs.declared.season.Count.{Count}
+use Rattle.record_rules.specs.Season.{secondsLater, secondsIn, calendarSeconds}
+use Rattle.record_rules.specs.Sixty.{upTo59}
+use Rattle.record_rules.specs.Rule.{refusalOf}
+use Rattle.record_rules.specs.Next.{weekdayAfter, recordAfter, isLastOfCalendar, nextSecondOf}
+use Rattle.record_rules.specs.Moment.{inUtc}
+use Rattle.record_rules.specs.Utc.{countOf, utcSeconds}
+use Rattle.record_rules.specs.Following.{secondsOn}
+use Rattle.record_rules.proofs.UtcLaws.{seconds-in-later, count-within, had-count, utc-later}
+use Rattle.record_rules.proofs.FollowingLaws.{next-is-later}
 use Rattle.clock.specs.declared.Clock.{Clock}
 use Rattle.clock.specs.declared.StepAnswer.the-variants as answer
 use Rattle.clock.specs.Stepping.{clockSecond, steppedBy, stepOf}

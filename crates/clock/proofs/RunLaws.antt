@@ -7,29 +7,29 @@ use lib.Dec.{ltb, eqb}
 use borrow.Author.Tests.{ltb-true, ltb-false, eqb-true}
 use Rattle.refusals.specs.Refusals.{Outcome, done, refused, unless}
 use Rattle.refusals.proofs.Laws.{both, does}
-use Rattle.calendar.specs.Calendar.{dayOf, isLastDay, dayAfter}
-use Rattle.calendar.specs.TimeOfDay.{secondsOf, isLastSecond}
-use Rattle.calendar.specs.declared.date.Date.{Date}
-use Rattle.calendar.specs.declared.time.Time.{Time}
-use Rattle.calendar.proofs.Dates.{Good as GoodDate, good as date-good, day-within, day-after}
-use Rattle.calendar.proofs.Times.{Good as GoodTime, good-range, seconds-within, last-second}
-use Rattle.record.specs.declared.DatedLayout.{DatedLayout}
-use Rattle.record.specs.declared.Status.{Status}
-use Rattle.record.specs.declared.Record.{Record}
-use Rattle.record.specs.declared.Record.the-variants.{Dated}
-use Rattle.record.specs.declared.season.Count.{Count}
-use Rattle.record.specs.Season.{secondsLater, secondsIn, calendarSeconds}
-use Rattle.record.specs.Sixty.{isSixty, upTo59}
-use Rattle.record.specs.Rule.{datedRefusal, is60}
-use Rattle.record.specs.Next.{recordAfter, isLastOfCalendar, nextSecondOf}
-use Rattle.record.specs.Utc.{ownSeconds, countOf}
-use Rattle.record.specs.Following.{secondsOn}
-use Rattle.record.proofs.SixtyLaws.{never, last-of-day, last-number}
-use Rattle.record.proofs.RuleLaws.{good, good-up-to-59}
-use Rattle.record.proofs.NextLaws.{next-no-sixty}
-use Rattle.record.proofs.UtcLaws.{done-after, followers-number, plain-time, placed, placed-seconds, count-within, none-later, later-still, seconds-in-later}
-use Rattle.record.proofs.FollowingLaws.{next-is-later}
-use Rattle.record.proofs.LastSixtyHolds.{last-is-good, lastSixty, last-next}
+use Rattle.calendar_rules.specs.Calendar.{dayOf, isLastDay, dayAfter}
+use Rattle.calendar_rules.specs.TimeOfDay.{secondsOf, isLastSecond}
+use Rattle.calendar_rules.specs.declared.date.Date.{Date}
+use Rattle.calendar_rules.specs.declared.time.Time.{Time}
+use Rattle.calendar_rules.proofs.Dates.{Good as GoodDate, good as date-good, day-within, day-after}
+use Rattle.calendar_rules.proofs.Times.{Good as GoodTime, good-range, seconds-within, last-second}
+use Rattle.record_rules.specs.declared.DatedLayout.{DatedLayout}
+use Rattle.record_rules.specs.declared.Status.{Status}
+use Rattle.record_rules.specs.declared.Record.{Record}
+use Rattle.record_rules.specs.declared.Record.the-variants.{Dated}
+use Rattle.record_rules.specs.declared.season.Count.{Count}
+use Rattle.record_rules.specs.Season.{secondsLater, secondsIn, calendarSeconds}
+use Rattle.record_rules.specs.Sixty.{isSixty, upTo59}
+use Rattle.record_rules.specs.Rule.{datedRefusal, is60}
+use Rattle.record_rules.specs.Next.{recordAfter, isLastOfCalendar, nextSecondOf}
+use Rattle.record_rules.specs.Utc.{ownSeconds, countOf}
+use Rattle.record_rules.specs.Following.{secondsOn}
+use Rattle.record_rules.proofs.SixtyLaws.{never, last-of-day, last-number}
+use Rattle.record_rules.proofs.RuleLaws.{good, good-up-to-59}
+use Rattle.record_rules.proofs.NextLaws.{next-no-sixty}
+use Rattle.record_rules.proofs.UtcLaws.{done-after, followers-number, plain-time, placed, placed-seconds, count-within, none-later, later-still, seconds-in-later}
+use Rattle.record_rules.proofs.FollowingLaws.{next-is-later}
+use Rattle.record_rules.proofs.LastSixtyHolds.{last-is-good, lastSixty, last-next}
 use Rattle.clock.specs.declared.Clock.{Clock}
 use Rattle.clock.specs.declared.StepAnswer.the-variants as answer
 use Rattle.clock.specs.Stepping.{clockSecond, steppedBy, stepOf}

@@ -5,15 +5,15 @@ use Prim.Native.Nat.{ℕ, zero, suc}
 use native.Mathlib.Omega.{arith}
 use Rattle.refusals.specs.Refusals.{_when_, _else_, Outcome, done, refused, unless, after}
 use Rattle.refusals.proofs.Laws.{was-done, else-assoc}
-use Rattle.calendar.specs.declared.date.Date.{Date}
-use Rattle.calendar.specs.declared.time.Time.{Time}
-use Rattle.record.specs.declared.DatedLayout.{DatedLayout}
-use Rattle.record.specs.declared.TimeLayout.{TimeLayout}
-use Rattle.record.specs.declared.Status.{Status}
-use Rattle.record.specs.declared.Record.{Record}
-use Rattle.record.specs.declared.Record.the-variants.{Dated, TimeOnly}
-use Rattle.record.specs.Rule.{refusalOf, carriesDate}
-use Rattle.record.specs.Next.{recordAfter, isLastOfCalendar, nextSecondOf}
+use Rattle.calendar_rules.specs.declared.date.Date.{Date}
+use Rattle.calendar_rules.specs.declared.time.Time.{Time}
+use Rattle.record_rules.specs.declared.DatedLayout.{DatedLayout}
+use Rattle.record_rules.specs.declared.TimeLayout.{TimeLayout}
+use Rattle.record_rules.specs.declared.Status.{Status}
+use Rattle.record_rules.specs.declared.Record.{Record}
+use Rattle.record_rules.specs.declared.Record.the-variants.{Dated, TimeOnly}
+use Rattle.record_rules.specs.Rule.{refusalOf, carriesDate}
+use Rattle.record_rules.specs.Next.{recordAfter, isLastOfCalendar, nextSecondOf}
 use Rattle.clock.specs.declared.Clock.{Clock}
 use Rattle.clock.specs.declared.StepAnswer.the-variants as answer
 use Rattle.clock.specs.declared.Stepped.{Stepped}

@@ -3,14 +3,14 @@ use mathlib.Core.Bool.{true, false}
 use mathlib.Core.List.{List, [], _∷_}
 use mathlib.Core.Path.{_≡_}
 use Rattle.refusals.specs.Tables.{EachHolds}
-use Rattle.calendar.specs.Literals.{date, time}
-use Rattle.record.specs.declared.DatedLayout.the-variants.{L6021}
-use Rattle.record.specs.declared.TimeLayout.the-variants.{T6021}
-use Rattle.record.specs.declared.Reception.the-variants.{Radio}
-use Rattle.record.specs.declared.Status.{Status}
-use Rattle.record.specs.declared.Record.{Record}
-use Rattle.record.specs.declared.Record.the-variants.{Dated, TimeOnly}
-use Rattle.record.specs.Literals.{statusOf, standardTime, markedUtc}
+use Rattle.calendar_rules.specs.Literals.{date, time}
+use Rattle.record_rules.specs.declared.DatedLayout.the-variants.{L6021}
+use Rattle.record_rules.specs.declared.TimeLayout.the-variants.{T6021}
+use Rattle.record_rules.specs.declared.Reception.the-variants.{Radio}
+use Rattle.record_rules.specs.declared.Status.{Status}
+use Rattle.record_rules.specs.declared.Record.{Record}
+use Rattle.record_rules.specs.declared.Record.the-variants.{Dated, TimeOnly}
+use Rattle.record_rules.specs.Literals.{statusOf, standardTime, markedUtc}
 use Rattle.clock.specs.declared.StepAnswer.{StepAnswer}
 use Rattle.clock.specs.declared.StepAnswer.the-variants.{Stepped, Refused}
 use Rattle.clock.specs.Stepping.{stepOf}

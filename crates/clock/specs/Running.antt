@@ -3,18 +3,18 @@ use mathlib.Core.Path.{_≡_}
 use mathlib.Core.Bool.{true, false}
 use Prim.Native.Nat.{ℕ, zero, suc, _+_, _<_}
 use Rattle.refusals.specs.Refusals.{done, refused}
-use Rattle.calendar.specs.Literals.{date, time}
-use Rattle.record.specs.declared.DatedLayout.{DatedLayout}
-use Rattle.record.specs.declared.TimeLayout.{TimeLayout}
-use Rattle.record.specs.declared.Status.{Status}
-use Rattle.record.specs.declared.Record.{Record}
-use Rattle.record.specs.declared.Record.the-variants.{Dated, TimeOnly}
-use Rattle.record.specs.declared.season.UtcSeconds.{UtcSeconds}
-use Rattle.record.specs.declared.season.Count.{Count}
-use Rattle.record.specs.Season.{secondsLater, secondsIn, calendarSeconds}
-use Rattle.record.specs.Rule.{statusAllowed, is60}
-use Rattle.record.specs.Utc.{countOf, utcSeconds}
-use Rattle.record.specs.Following.{secondsOn}
+use Rattle.calendar_rules.specs.Literals.{date, time}
+use Rattle.record_rules.specs.declared.DatedLayout.{DatedLayout}
+use Rattle.record_rules.specs.declared.TimeLayout.{TimeLayout}
+use Rattle.record_rules.specs.declared.Status.{Status}
+use Rattle.record_rules.specs.declared.Record.{Record}
+use Rattle.record_rules.specs.declared.Record.the-variants.{Dated, TimeOnly}
+use Rattle.record_rules.specs.declared.season.UtcSeconds.{UtcSeconds}
+use Rattle.record_rules.specs.declared.season.Count.{Count}
+use Rattle.record_rules.specs.Season.{secondsLater, secondsIn, calendarSeconds}
+use Rattle.record_rules.specs.Rule.{statusAllowed, is60}
+use Rattle.record_rules.specs.Utc.{countOf, utcSeconds}
+use Rattle.record_rules.specs.Following.{secondsOn}
 use Rattle.clock.specs.declared.Clock.{Clock}
 use Rattle.clock.specs.declared.StepAnswer.the-variants as answer
 use Rattle.clock.specs.Stepping.{stepOf}

@@ -1,9 +1,9 @@
 -- Document 01, "Calendar, UTC and the station clock": one step of the station clock.
 use mathlib.Core.Bool.{not}
 use Rattle.refusals.specs.Refusals.{_when_, Outcome, done, refused, unless, after}
-use Rattle.record.specs.declared.Record.{Record}
-use Rattle.record.specs.Rule.{carriesDate}
-use Rattle.record.specs.Next.{nextSecondOf}
+use Rattle.record_rules.specs.declared.Record.{Record}
+use Rattle.record_rules.specs.Rule.{carriesDate}
+use Rattle.record_rules.specs.Next.{nextSecondOf}
 use Rattle.clock.specs.declared.Clock.{Clock}
 use Rattle.clock.specs.declared.StepAnswer.the-variants as answer
 use Rattle.clock.specs.declared.Stepped.{Stepped}

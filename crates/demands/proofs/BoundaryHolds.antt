@@ -1,18 +1,18 @@
 -- The boundary table holds, computed from the definitions. Assumes nothing.
 use mathlib.Core.Path.{refl}
 use Rattle.refusals.specs.Refusals.{unless}
-use Rattle.places.specs.Places.{isDecimal, isCapital, codeValue}
-use Rattle.calendar.specs.Calendar.{isLeap, monthLength, monthInRange, dateInRange, dayExists, dateRefusal, monthStart, dayOf, dayNumber}
-use Rattle.calendar.specs.TimeOfDay.{timeInRange, timeRefusal, secondsOf, secondOfDay}
-use Rattle.record.specs.Season.{seasonShift, toUtc}
-use Rattle.record.specs.Moment.{momentOf}
-use Rattle.record.specs.Sixty.{sixtyBehind59, takesSixty}
-use Rattle.record.specs.Rule.{plainUtc, tableCanSay, statusAllowed, weekdayAllowed, weekdayAgrees, timeAllowed, timeAloneAllowed, timeAloneRefusal, datedRefusal}
-use Rattle.record.specs.Utc.{numberedAs}
-use Rattle.layouts.specs.Layouts.{placesOf, layoutOf}
-use Rattle.layouts.specs.Coding.{statusIn6021, statusIn5500}
-use Rattle.telegram.specs.Reading.{carried, bodyRefusal, readIn}
-use Rattle.board.specs.Of6036.{parameterIn}
+use Rattle.places_rules.specs.Places.{isDecimal, isCapital, codeValue}
+use Rattle.calendar_rules.specs.Calendar.{isLeap, monthLength, monthInRange, dateInRange, dayExists, dateRefusal, monthStart, dayOf, dayNumber}
+use Rattle.calendar_rules.specs.TimeOfDay.{timeInRange, timeRefusal, secondsOf, secondOfDay}
+use Rattle.record_rules.specs.Season.{seasonShift, toUtc}
+use Rattle.record_rules.specs.Moment.{momentOf}
+use Rattle.record_rules.specs.Sixty.{sixtyBehind59, takesSixty}
+use Rattle.record_rules.specs.Rule.{plainUtc, tableCanSay, statusAllowed, weekdayAllowed, weekdayAgrees, timeAllowed, timeAloneAllowed, timeAloneRefusal, datedRefusal}
+use Rattle.record_rules.specs.Utc.{numberedAs}
+use Rattle.layouts_rules.specs.Layouts.{placesOf, layoutOf}
+use Rattle.layouts_rules.specs.Coding.{statusIn6021, statusIn5500}
+use Rattle.telegram_rules.specs.Reading.{carried, bodyRefusal, readIn}
+use Rattle.board_rules.specs.Of6036.{parameterIn}
 use Rattle.demands.specs.Boundary.{TheBoundaryTableHolds}
 
 pub boundary-table : TheBoundaryTableHolds

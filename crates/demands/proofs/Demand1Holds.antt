@@ -14,33 +14,33 @@ use Rattle.lent_buffer.specs.declared.Ending.the-variants as ending
 use Rattle.lent_buffer.specs.Laying.{sizeOf, laid}
 use Rattle.lent_buffer.specs.Answers.{endingAnswer}
 use Rattle.lent_buffer.proofs.LayingLaws.{laid-answer, stops, refused-is-untouched}
-use Rattle.calendar.specs.Ranges.{inside}
-use Rattle.calendar.specs.Calendar.{dateInRange, dayExists, dateRefusal, monthInRange, monthLength, dayOf, dateAt, dayAfter, isLastDay, dayNumber, dateOf, nextDay}
-use Rattle.calendar.specs.TimeOfDay.{timeInRange, timeRefusal, secondsOf, timeAfter, isLastSecond, secondOfDay, nextSecond}
-use Rattle.record.specs.declared.Record.{Record}
-use Rattle.record.specs.declared.Record.the-variants.{Dated, TimeOnly}
-use Rattle.record.specs.declared.season.LocalSeconds.{LocalSeconds}
-use Rattle.record.specs.Season.{calendarSeconds, seasonShift, isOutside, toUtc}
-use Rattle.record.specs.Rule.{refusalOf}
-use Rattle.record.specs.Next.{nextSecondOf}
-use Rattle.record.specs.Utc.{countOf, utcSeconds}
-use Rattle.places.specs.Places.{fixedHolds, decimalHolds, codeHolds, every, faultOf, foundIn}
-use Rattle.layouts.specs.declared.Layout.{Layout}
-use Rattle.layouts.specs.Layouts.{layoutOf}
-use Rattle.telegram.specs.declared.write.Choice.{Choice}
-use Rattle.telegram.specs.declared.write.Choice.the-variants.{Named, NamedIn, Unnamed}
+use Rattle.calendar_rules.specs.Ranges.{inside}
+use Rattle.calendar_rules.specs.Calendar.{dateInRange, dayExists, dateRefusal, monthInRange, monthLength, dayOf, dateAt, dayAfter, isLastDay, dayNumber, dateOf, nextDay}
+use Rattle.calendar_rules.specs.TimeOfDay.{timeInRange, timeRefusal, secondsOf, timeAfter, isLastSecond, secondOfDay, nextSecond}
+use Rattle.record_rules.specs.declared.Record.{Record}
+use Rattle.record_rules.specs.declared.Record.the-variants.{Dated, TimeOnly}
+use Rattle.record_rules.specs.declared.season.LocalSeconds.{LocalSeconds}
+use Rattle.record_rules.specs.Season.{calendarSeconds, seasonShift, isOutside, toUtc}
+use Rattle.record_rules.specs.Rule.{refusalOf}
+use Rattle.record_rules.specs.Next.{nextSecondOf}
+use Rattle.record_rules.specs.Utc.{countOf, utcSeconds}
+use Rattle.places_rules.specs.Places.{fixedHolds, decimalHolds, codeHolds, every, faultOf, foundIn}
+use Rattle.layouts_rules.specs.declared.Layout.{Layout}
+use Rattle.layouts_rules.specs.Layouts.{layoutOf}
+use Rattle.telegram_rules.specs.declared.write.Choice.{Choice}
+use Rattle.telegram_rules.specs.declared.write.Choice.the-variants.{Named, NamedIn, Unnamed}
 use Rattle.telegram.specs.declared.several.Several.{Several}
-use Rattle.telegram.specs.Reading.{bodyIn, carried, readIn}
+use Rattle.telegram_rules.specs.Reading.{bodyIn, carried, readIn}
 use Rattle.telegram.specs.SeveralTelegrams.{severalAfter}
-use Rattle.telegram.specs.Writing.{telegramFor, written}
+use Rattle.telegram_rules.specs.Writing.{telegramFor, written}
 use Rattle.telegram.proofs.SeveralLaws.{oneMore, ended-before, one-more}
 use Rattle.clock.specs.Stepping.{stepOf}
 use Rattle.clock.specs.Answers.{stepAnswer}
 use Rattle.clock.proofs.StepLaws.{refused-is-unchanged}
-use Rattle.board.specs.Switches.{switch, byteOf}
-use Rattle.board.specs.Of6036.{offered, switchesFor, byteFor}
-use Rattle.board.specs.Of6038 as of-6038
-use Rattle.board.specs.RoundTrip6038.{isOffOn}
+use Rattle.board_rules.specs.Switches.{switch, byteOf}
+use Rattle.board_rules.specs.Of6036.{offered, switchesFor, byteFor}
+use Rattle.board_rules.specs.Of6038 as of-6038
+use Rattle.board_rules.specs.RoundTrip6038.{isOffOn}
 use Rattle.demands.specs.Lengths.{sevenLayouts, lengthOf}
 use Rattle.demands.specs.Numbers.{_givenWhen_, firstOf, among, _refusedBy_, _byFirst_}
 use Rattle.demands.specs.Rules.{placeRules, dateRules, recordRules, rulesIn, readingRules, nextSecondRules, writingRules, countRules, utcRules, stepRules}

@@ -9,15 +9,15 @@ use lib.ListN.{length}
 use borrow.Author.Tests.{ne-eqb}
 use Rattle.refusals.specs.Refusals.{_when_, _else_, done, unless}
 use Rattle.lent_buffer.proofs.LayingLaws.{refused-is-untouched}
-use Rattle.places.specs.Places.{Place, rowFault, gather, noDigits, foundIn}
-use Rattle.calendar.specs.Calendar.{dateInRange, dayExists, dateRefusal}
-use Rattle.calendar.specs.TimeOfDay.{timeInRange}
-use Rattle.calendar.specs.DayOfYear.{yearDay, dayOfYear}
-use Rattle.leitch.specs.declared.Reply.{Reply}
-use Rattle.leitch.specs.Row.{replyRow}
-use Rattle.leitch.specs.Rule.{statusListed, weekdayListed, allInRange, weekdayAgrees, fieldsRefusal, dayAgrees, dayRefusal}
-use Rattle.leitch.specs.Reading.{carried, replyRefusal, replyOf}
-use Rattle.leitch.specs.Writing.{replyBytes, written}
+use Rattle.places_rules.specs.Places.{Place, rowFault, gather, noDigits, foundIn}
+use Rattle.calendar_rules.specs.Calendar.{dateInRange, dayExists, dateRefusal}
+use Rattle.calendar_rules.specs.TimeOfDay.{timeInRange}
+use Rattle.calendar_rules.specs.DayOfYear.{yearDay, dayOfYear}
+use Rattle.leitch_rules.specs.declared.Reply.{Reply}
+use Rattle.leitch_rules.specs.Row.{replyRow}
+use Rattle.leitch_rules.specs.Rule.{statusListed, weekdayListed, allInRange, weekdayAgrees, fieldsRefusal, dayAgrees, dayRefusal}
+use Rattle.leitch_rules.specs.Reading.{carried, replyRefusal, replyOf}
+use Rattle.leitch_rules.specs.Writing.{replyBytes, written}
 use Rattle.requests.specs.declared.Asked.{Asked}
 use Rattle.requests.specs.declared.Asked.the-variants.{Time, TimeAndDate, UtcTimeAndDate}
 use Rattle.requests.specs.Requests.{capitalOf, smallOf, alone, delayed, requestRows, fits, delayOf, request, requestIn, requestOf}

@@ -10,21 +10,21 @@ use borrow.Author.Tests.{eqb-true}
 use Rattle.ascii.specs.Control.{stx, etx}
 use Rattle.refusals.specs.Refusals.{_when_, _else_, Outcome, done, refused, unless}
 use Rattle.refusals.proofs.Laws.{both}
-use Rattle.places.specs.Places.{fixedHolds, decimalHolds, codeHolds, every}
-use Rattle.record.specs.declared.Record.{Record}
-use Rattle.record.specs.declared.Record.the-variants.{Dated, TimeOnly}
-use Rattle.layouts.specs.declared.Layout.{Layout}
-use Rattle.layouts.specs.Layouts.{placesOf, layoutOf}
-use Rattle.trailer.specs.declared.Order.{Order}
-use Rattle.telegram.specs.Reading.{bodyIn, carried, readIn}
-use Rattle.telegram.proofs.Frames.{frame-is-framed}
+use Rattle.places_rules.specs.Places.{fixedHolds, decimalHolds, codeHolds, every}
+use Rattle.record_rules.specs.declared.Record.{Record}
+use Rattle.record_rules.specs.declared.Record.the-variants.{Dated, TimeOnly}
+use Rattle.layouts_rules.specs.declared.Layout.{Layout}
+use Rattle.layouts_rules.specs.Layouts.{placesOf, layoutOf}
+use Rattle.trailer_rules.specs.declared.Order.{Order}
+use Rattle.telegram_rules.specs.Reading.{bodyIn, carried, readIn}
+use Rattle.telegram_rules.proofs.Frames.{frame-is-framed}
 use Rattle.line.specs.declared.Reader.{Reader}
 use Rattle.line.specs.declared.Fed.{Fed}
 use Rattle.line.specs.Readers.{lineOf, readerOf, fedFor, wellFormed, feedReaderAt, endReaderAt}
-use Rattle.line.specs.Line.{places, Line, Told, nothing, event, Feeding, toldBy, toldByEnd, step, startOf, allPlain, isStarted, stopOr, feedOf, heardFor}
+use Rattle.line_rules.specs.Line.{places, Line, Told, nothing, event, Feeding, toldBy, toldByEnd, step, startOf, allPlain, isStarted, stopOr, feedOf, heardFor}
 use Rattle.line.specs.Pieces.{Passing, passOn, passing}
 use Rattle.line.proofs.ReaderLaws.{well, feed-refused, end-refused}
-use Rattle.line.proofs.GoodLines.{Good, started-stays, good-feed}
+use Rattle.line_rules.proofs.GoodLines.{Good, started-stays, good-feed}
 use Rattle.line.proofs.StaysGood.{good-line, reader-of-good}
 use Rattle.demands.specs.Numbers.{Rule, _givenWhen_, among, _doneOr_, _silentOr_, EachSilentOr, firstOf}
 use Rattle.demands.specs.Lengths.{sevenLayouts, lengthOf}

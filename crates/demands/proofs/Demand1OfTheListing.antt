@@ -10,16 +10,16 @@ use Rattle.lent_buffer.specs.declared.Ending.the-variants as ending
 use Rattle.lent_buffer.specs.Laying.{sizeOf, laid}
 use Rattle.lent_buffer.specs.OneBehindAnother.{endingIn}
 use Rattle.lent_buffer.proofs.LayingLaws.{within-unless, within-refused, laid-answer, refused-is-untouched}
-use Rattle.record.specs.declared.Record.the-variants.{Dated, TimeOnly}
-use Rattle.record.specs.declared.RecordAnswer.{RecordAnswer}
-use Rattle.record.specs.declared.RecordAnswer.the-variants as answer
-use Rattle.record.specs.Rule.{refusalOf}
+use Rattle.record_rules.specs.declared.Record.the-variants.{Dated, TimeOnly}
+use Rattle.record_rules.specs.declared.RecordAnswer.{RecordAnswer}
+use Rattle.record_rules.specs.declared.RecordAnswer.the-variants as answer
+use Rattle.record_rules.specs.Rule.{refusalOf}
 use Rattle.line.specs.Readers.{wellFormed, lineOf}
-use Rattle.line.specs.Line.{Line}
-use Rattle.line.specs.Events.{eventsOf}
+use Rattle.line_rules.specs.Line.{Line}
+use Rattle.line_rules.specs.Events.{eventsOf}
 use Rattle.line.proofs.ReaderLaws.{reader-back}
 use Rattle.line.proofs.StaysGood.{good-line}
-use Rattle.listing.specs.Listing.{headerRow, recordRow, refusedRow, eventRow, strayRow}
+use Rattle.listing_rules.specs.Listing.{headerRow, recordRow, refusedRow, eventRow, strayRow}
 use Rattle.listing_of_lines.specs.Pages.{rowFor, pageOf}
 use Rattle.listing_of_lines.specs.Whole.{rowsOf}
 use Rattle.listing_of_lines.proofs.PageLaws.{nothing-laid, refused-laid, page-refused}

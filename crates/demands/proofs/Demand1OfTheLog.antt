@@ -8,19 +8,19 @@ use lib.Dec.{ltb, leb·suc-zero, leb·suc-suc}
 use lib.ListN.{length, getD}
 use borrow.Author.Tests.{ltb-true, lt-ltb}
 use Rattle.refusals.specs.Refusals.{_when_, Outcome, done, refused, unless, after}
-use Rattle.telegram.specs.Reading.{readOf}
-use Rattle.trailer.specs.declared.Order.the-variants.{AsPrinted}
-use Rattle.log.specs.declared.verify.Verified.the-variants.{Bad}
-use Rattle.log.specs.Block.{slots}
-use Rattle.log.specs.Good.{countIn, telegramsOf, isGood}
-use Rattle.log.specs.Region.{isWhole, blocksIn, wholeBlocks, blocksOf, blockAt}
-use Rattle.log.specs.Verify.{firstBad, verifiedBy, verifyOf}
-use Rattle.log.specs.Add.{placeAt, firstFree, someUsed, freeBehindUsed, placeIn, placeFor, addOf}
-use Rattle.log.specs.ReadBack.{numbered, telegramAt, readBackOf}
-use Rattle.log.proofs.BlockLaws.{count-telegrams}
-use Rattle.log.proofs.RegionLaws.{blocks-length, blocks-at}
-use Rattle.log.proofs.PlaceLaws.{none-used}
-use Rattle.log.proofs.AddHolds.{a-refused-add-leaves-the-region}
+use Rattle.telegram_rules.specs.Reading.{readOf}
+use Rattle.trailer_rules.specs.declared.Order.the-variants.{AsPrinted}
+use Rattle.log_rules.specs.declared.verify.Verified.the-variants.{Bad}
+use Rattle.log_rules.specs.Block.{slots}
+use Rattle.log_rules.specs.Good.{countIn, telegramsOf, isGood}
+use Rattle.log_rules.specs.Region.{isWhole, blocksIn, wholeBlocks, blocksOf, blockAt}
+use Rattle.log_rules.specs.Verify.{firstBad, verifiedBy, verifyOf}
+use Rattle.log_rules.specs.Add.{placeAt, firstFree, someUsed, freeBehindUsed, placeIn, placeFor, addOf}
+use Rattle.log_rules.specs.ReadBack.{numbered, telegramAt, readBackOf}
+use Rattle.log_rules.proofs.BlockLaws.{count-telegrams}
+use Rattle.log_rules.proofs.RegionLaws.{blocks-length, blocks-at}
+use Rattle.log_rules.proofs.PlaceLaws.{none-used}
+use Rattle.log_rules.proofs.AddHolds.{a-refused-add-leaves-the-region}
 use Rattle.demands.specs.Numbers.{Rule, _givenWhen_, firstOf, _byFirst_}
 use Rattle.demands.specs.Rules.{readingRules}
 use Rattle.demands.specs.Demand1OfTheLog.{hasFree, someBad, freeRules, readBackRules, verifyRules, verifiedOutcome, AddingRefuses, ReadingBackRefuses, VerifyingRefuses, ARefusedAddChangesNoByte}

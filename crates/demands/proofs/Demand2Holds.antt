@@ -9,27 +9,27 @@ use Rattle.refusals.specs.Refusals.{done, refused, unless, after}
 use Rattle.refusals.proofs.Laws.{does}
 use Rattle.lent_buffer.specs.Laying.{within, laidIn}
 use Rattle.lent_buffer.proofs.LayingLaws.{within-fits, within-done, within-refused}
-use Rattle.places.specs.Places.{render}
-use Rattle.calendar.specs.TimeOfDay.{secondsOf, timeAfter, isLastSecond}
-use Rattle.calendar.proofs.Times as times
-use Rattle.calendar.proofs.Times.{Follows, seconds-within, time-after}
-use Rattle.record.specs.declared.Record.{Record}
-use Rattle.record.specs.Sixty.{isSixty, upTo59}
-use Rattle.record.specs.Rule.{refusalOf}
-use Rattle.record.specs.Next.{nextSecondOf}
-use Rattle.record.proofs.RuleLaws.{alone-up-to-59}
-use Rattle.record.proofs.NextLaws.{next-no-sixty}
-use Rattle.record.proofs.UtcLaws.{sixty-second, plain-time}
-use Rattle.record.proofs.FollowingLaws.{next-is-later}
+use Rattle.places_rules.specs.Places.{render}
+use Rattle.calendar_rules.specs.TimeOfDay.{secondsOf, timeAfter, isLastSecond}
+use Rattle.calendar_rules.proofs.Times as times
+use Rattle.calendar_rules.proofs.Times.{Follows, seconds-within, time-after}
+use Rattle.record_rules.specs.declared.Record.{Record}
+use Rattle.record_rules.specs.Sixty.{isSixty, upTo59}
+use Rattle.record_rules.specs.Rule.{refusalOf}
+use Rattle.record_rules.specs.Next.{nextSecondOf}
+use Rattle.record_rules.proofs.RuleLaws.{alone-up-to-59}
+use Rattle.record_rules.proofs.NextLaws.{next-no-sixty}
+use Rattle.record_rules.proofs.UtcLaws.{sixty-second, plain-time}
+use Rattle.record_rules.proofs.FollowingLaws.{next-is-later}
 use Rattle.clock.proofs.RunLaws.{step-makes-no-sixty}
-use Rattle.trailer.specs.declared.Order.{Order}
-use Rattle.telegram.specs.declared.write.Choice.{Choice}
-use Rattle.telegram.specs.declared.write.Choice.the-variants.{Unnamed}
-use Rattle.telegram.specs.Reading.{readIn}
-use Rattle.telegram.specs.Writing.{bodyBytes, telegramIn, as6021, recordToWrite, telegramFor, written}
-use Rattle.telegram.proofs.WriteLaws.{telegram-made, was-made}
-use Rattle.telegram.proofs.InOrder.{reads-back, accepted}
-use Rattle.telegram.proofs.ReadsBack.{write-reads-back}
+use Rattle.trailer_rules.specs.declared.Order.{Order}
+use Rattle.telegram_rules.specs.declared.write.Choice.{Choice}
+use Rattle.telegram_rules.specs.declared.write.Choice.the-variants.{Unnamed}
+use Rattle.telegram_rules.specs.Reading.{readIn}
+use Rattle.telegram_rules.specs.Writing.{bodyBytes, telegramIn, as6021, recordToWrite, telegramFor, written}
+use Rattle.telegram_rules.proofs.WriteLaws.{telegram-made, was-made}
+use Rattle.telegram_rules.proofs.InOrder.{reads-back, accepted}
+use Rattle.telegram_rules.proofs.ReadsBack.{write-reads-back}
 use Rattle.demands.specs.Demand2.{Good, plain, advanced, ATelegramIsItsRow, ATelegramHasTheTablesLength, WrittenByTheTables, ReadByTheTables, TheReaderAcceptsExactlyWhatTheWriterCanMake, WhatIsWrittenReadsBack, WhatIsWrittenWithoutASettingReadsBack, WrittenWithAdvanceItReadsBackAsTheNextSecond, TheNextSecondIsOneLater, TheNextSecondOfADayIsOneLater, NeitherMakesASixty}
 use Rattle.demands.proofs.TableLengths.{telegram-length}
 

@@ -7,12 +7,12 @@ use borrow.Author.Tests.{le-ltb}
 use Rattle.refusals.specs.Refusals.{done}
 use Rattle.refusals.proofs.Laws.{does}
 use Rattle.lent_buffer.specs.Laying.{laidIn}
-use Rattle.leitch.specs.declared.Reply.{Reply}
-use Rattle.leitch.specs.Reading.{replyOf}
-use Rattle.leitch.specs.Writing.{replyBytes, written}
-use Rattle.leitch.specs.AsPrinted.{asPrinted}
-use Rattle.leitch.proofs.BackAndForth.{written-reads-back, accepted, read-is-written}
-use Rattle.leitch.proofs.Spelled.{every-as-printed}
+use Rattle.leitch_rules.specs.declared.Reply.{Reply}
+use Rattle.leitch_rules.specs.Reading.{replyOf}
+use Rattle.leitch_rules.specs.Writing.{replyBytes, written}
+use Rattle.leitch_rules.specs.AsPrinted.{asPrinted}
+use Rattle.leitch_rules.proofs.BackAndForth.{written-reads-back, accepted, read-is-written}
+use Rattle.leitch_rules.proofs.Spelled.{every-as-printed}
 use Rattle.requests.proofs.ExactlyHolds.{capital-asks, small-asks, nothing-else, no-delay-is-longer}
 use Rattle.demands.specs.Demand2OfReplies.{GoodReply, RepliesAreWrittenAsPrinted, RepliesAreReadAsPrinted, TheReaderOfRepliesAcceptsExactlyWhatTheWriterCanMake, AWrittenReplyReadsBack, AReadReplyIsWritten, RequestsAreReadExactly}
 

@@ -4,17 +4,17 @@ use mathlib.Core.Bool.{true}
 use mathlib.Core.List.{List, [], _∷_}
 use Prim.Native.Nat.{ℕ}
 use borrow.Author.Tests.{eq-eqb}
-use Rattle.record.specs.Rule.{refusalOf}
+use Rattle.record_rules.specs.Rule.{refusalOf}
 use Rattle.line.specs.declared.Reader.{Reader}
 use Rattle.line.specs.Readers.{freshIn, feedReader}
-use Rattle.line.specs.Line.{freshLine}
+use Rattle.line_rules.specs.Line.{freshLine}
 use Rattle.line.specs.Cuts.{Calls, feeding}
 use Rattle.line.specs.Pieces.{usingUp}
-use Rattle.line.specs.SentLine.{Sent, allGood}
-use Rattle.line.proofs.EventLaws.{good-fresh}
+use Rattle.line_rules.specs.SentLine.{Sent, allGood}
+use Rattle.line_rules.proofs.EventLaws.{good-fresh}
 use Rattle.line.proofs.CutLaws.{Splitting, feeding-splits, a-feeding-is}
 use Rattle.line.proofs.UsesUp.{using-up-splits, using-up-tells-the-line, using-up-is-such-a-feeding}
-use Rattle.line.proofs.SentGives.{same-line-same-records}
+use Rattle.line_rules.proofs.SentGives.{same-line-same-records}
 use Rattle.line.proofs.HandsBack.{exactly-those, true-stray, end-then}
 use Rattle.demands.specs.Demand3.{GoodTelegrams, NoStxAround, HandsBack, TheReaderHandsBackThatList, EveryCutCanBeUsedUp, UsingUpIsAFeedingToo, UsingUpHandsBackThatList, TwoListsThatDifferNeverMakeTheSameLine}
 

@@ -10,23 +10,23 @@ use lib.ListN.{length, drop, length-append, length-take, length-drop}
 use borrow.Author.Tests.{ne-eqb, leb-true}
 use Rattle.refusals.specs.Refusals.{Outcome, done, refused}
 use Rattle.ascii.specs.Control.{stx, etx}
-use Rattle.record.specs.declared.Record.{Record}
-use Rattle.layouts.specs.Layouts.{layoutOf}
-use Rattle.trailer.specs.declared.Order.{Order}
-use Rattle.trailer.proofs.TrailerLaws.{length-in-order}
-use Rattle.telegram.specs.Reading.{bodyOf, bodyIn, readIn}
+use Rattle.record_rules.specs.declared.Record.{Record}
+use Rattle.layouts_rules.specs.Layouts.{layoutOf}
+use Rattle.trailer_rules.specs.declared.Order.{Order}
+use Rattle.trailer_rules.proofs.TrailerLaws.{length-in-order}
+use Rattle.telegram_rules.specs.Reading.{bodyOf, bodyIn, readIn}
 use Rattle.line.specs.Readers.{lineOf}
-use Rattle.line.specs.Line.{places, Told, nothing, event, judgement, heldAfterAt, toldByAt, startOf, lineWith, strayBy}
-use Rattle.line.specs.Events.{tells, eventsAt, lineAfterAt, eventsOf, lineAfter}
-use Rattle.line.proofs.GoodLines.{good-after-at}
-use Rattle.line.proofs.EventLaws.{events-join, after-join}
+use Rattle.line_rules.specs.Line.{places, Told, nothing, event, judgement, heldAfterAt, toldByAt, startOf, lineWith, strayBy}
+use Rattle.line_rules.specs.Events.{tells, eventsAt, lineAfterAt, eventsOf, lineAfter}
+use Rattle.line_rules.proofs.GoodLines.{good-after-at}
+use Rattle.line_rules.proofs.EventLaws.{events-join, after-join}
 use Rattle.line.proofs.LongerReadersHold.{the-end-cuts-off-up-to-38, the-rule-is-the-one-at-38}
-use Rattle.line.proofs.LongerTelegramsHold.{up-to-38-bytes-are-held, stx-cuts-off-up-to-38, ten-is-given-when-38-are-held, up-to-39-bytes-are-judged}
+use Rattle.line_rules.proofs.LongerTelegramsHold.{up-to-38-bytes-are-held, stx-cuts-off-up-to-38, ten-is-given-when-38-are-held, up-to-39-bytes-are-judged}
 use Rattle.takeover.specs.TakingOver.{keptPlaces, stateOf}
 use Rattle.takeover.specs.Sentences.{readerFor, lineKept}
 use Rattle.takeover.proofs.SentencesHold.{kept-good, the-old-bound-is-24, refuses-what-the-old-rule-refused, what-the-old-reader-left, a-refused-state-comes-back, more-held-is-15, taken-over-is-the-same, taken-over-is-well-formed, without-a-ten-nothing-differs, a-call-without-a-ten, the-end-is-the-same, without-a-ten-each-cut}
 use Rattle.listing_of_lines.proofs.NumberLaws.{read-number}
-use Rattle.log.proofs.BlockLaws.{none-accepted-is-longer, that-many-fit-a-slot}
+use Rattle.log_rules.proofs.BlockLaws.{none-accepted-is-longer, that-many-fit-a-slot}
 use Rattle.demands.specs.LongerTelegrams.{LongerThan25Is1, AtTheFirstTenItHolds25, LongerTelegramsAreAsAskedFor}
 
 -- no layout has such a length

@@ -1,21 +1,21 @@
 -- All that is printed holds, by the theorem of each table. Assumes nothing.
-use Rattle.layouts.proofs.AsPrintedHolds as layouts
-use Rattle.telegram.proofs.AsPrintedHolds as telegram
-use Rattle.trailer.proofs.AsPrintedHolds as trailer
-use Rattle.telegram.proofs.OrderAsPrintedHolds.{orders-as-printed}
-use Rattle.record.proofs.AsPrintedHolds as records
-use Rattle.record.proofs.LastSixtyHolds.{last-as-printed}
-use Rattle.calendar.proofs.AsPrintedHolds as calendar
+use Rattle.layouts_rules.proofs.AsPrintedHolds as layouts
+use Rattle.telegram_rules.proofs.AsPrintedHolds as telegram
+use Rattle.trailer_rules.proofs.AsPrintedHolds as trailer
+use Rattle.telegram_rules.proofs.OrderAsPrintedHolds.{orders-as-printed}
+use Rattle.record_rules.proofs.AsPrintedHolds as records
+use Rattle.record_rules.proofs.LastSixtyHolds.{last-as-printed}
+use Rattle.calendar_rules.proofs.AsPrintedHolds as calendar
 use Rattle.clock.proofs.AsPrintedHolds as clock
 use Rattle.clock.proofs.RunLaws.{last-as-printed as last-step-as-printed}
-use Rattle.board.proofs.AsPrintedHolds as board
-use Rattle.board.proofs.AsPrinted6038Holds.{of-6038-as-printed}
-use Rattle.listing.proofs.AsPrintedHolds as listing
+use Rattle.board_rules.proofs.AsPrintedHolds as board
+use Rattle.board_rules.proofs.AsPrinted6038Holds.{of-6038-as-printed}
+use Rattle.listing_rules.proofs.AsPrintedHolds as listing
 use Rattle.listing_of_lines.proofs.AsPrintedHolds as pages
-use Rattle.leitch.proofs.AsPrintedHolds as leitch
-use Rattle.leitch.proofs.Spelled.{every-as-printed}
+use Rattle.leitch_rules.proofs.AsPrintedHolds as leitch
+use Rattle.leitch_rules.proofs.Spelled.{every-as-printed}
 use Rattle.requests.proofs.AsPrintedHolds as requests
-use Rattle.log.proofs.AsPrintedHolds as log
+use Rattle.log_rules.proofs.AsPrintedHolds as log
 use Rattle.listing_of_logs.proofs.AsPrintedHolds as logpages
 use Rattle.demands.specs.PrintedTables.{AllIsAsPrinted}
 use Rattle.demands.proofs.BoundaryHolds.{boundary-table}

@@ -10,27 +10,27 @@ use Rattle.refusals.specs.Refusals.{_when_, _else_, Outcome, done, refused, unl
 use Rattle.refusals.proofs.Laws.{else-assoc}
 use Rattle.lent_buffer.specs.Laying.{within}
 use Rattle.lent_buffer.proofs.LayingLaws.{within-unless, within-refused}
-use Rattle.places.specs.Places.{fixedHolds, decimalHolds, codeHolds, every}
-use Rattle.calendar.specs.Calendar.{dateInRange, dayExists, dayOf, dayAfter}
-use Rattle.calendar.specs.TimeOfDay.{timeInRange, secondsOf, isLastSecond, timeAfter}
-use Rattle.record.specs.declared.DatedLayout.the-variants.{L6021}
-use Rattle.record.specs.declared.Record.{Record}
-use Rattle.record.specs.declared.Record.the-variants.{Dated, TimeOnly}
-use Rattle.record.specs.Moment.{asMarked}
-use Rattle.record.specs.Sixty.{isSixty, sixtyBehind59, takesSixty, upTo59}
-use Rattle.record.specs.Rule.{statusAllowed, weekdayAllowed, weekdayAgrees, timeAllowed, timeAloneAllowed, timeAloneRefusal, datedRefusal, refusalOf, carriesDate}
-use Rattle.record.specs.Next.{weekdayAfter, recordAfter, isLastOfCalendar, nextSecondOf}
-use Rattle.record.specs.Utc.{noneFollows, countOf, utcSeconds}
-use Rattle.record.proofs.UtcLaws.{time-count, count-lowest-first, utc-lowest-first}
-use Rattle.layouts.specs.declared.Layout.{Layout}
-use Rattle.layouts.specs.Layouts.{placesOf, ownLayout, layoutOf}
-use Rattle.trailer.specs.declared.Order.{Order}
-use Rattle.trailer.specs.declared.Order.the-variants.{AsPrinted}
-use Rattle.telegram.specs.declared.write.Setting.{Setting}
-use Rattle.telegram.specs.declared.write.Choice.{Choice}
-use Rattle.telegram.specs.declared.write.Choice.the-variants.{Named, NamedIn, Unnamed}
-use Rattle.telegram.specs.Reading.{bodyIn, framed, carried, bodyRefusal, readIn}
-use Rattle.telegram.specs.Writing.{telegramIn, as6021, judgedOf, recordBy, recordToWrite, controlOf, orderOf, telegramFor, written}
+use Rattle.places_rules.specs.Places.{fixedHolds, decimalHolds, codeHolds, every}
+use Rattle.calendar_rules.specs.Calendar.{dateInRange, dayExists, dayOf, dayAfter}
+use Rattle.calendar_rules.specs.TimeOfDay.{timeInRange, secondsOf, isLastSecond, timeAfter}
+use Rattle.record_rules.specs.declared.DatedLayout.the-variants.{L6021}
+use Rattle.record_rules.specs.declared.Record.{Record}
+use Rattle.record_rules.specs.declared.Record.the-variants.{Dated, TimeOnly}
+use Rattle.record_rules.specs.Moment.{asMarked}
+use Rattle.record_rules.specs.Sixty.{isSixty, sixtyBehind59, takesSixty, upTo59}
+use Rattle.record_rules.specs.Rule.{statusAllowed, weekdayAllowed, weekdayAgrees, timeAllowed, timeAloneAllowed, timeAloneRefusal, datedRefusal, refusalOf, carriesDate}
+use Rattle.record_rules.specs.Next.{weekdayAfter, recordAfter, isLastOfCalendar, nextSecondOf}
+use Rattle.record_rules.specs.Utc.{noneFollows, countOf, utcSeconds}
+use Rattle.record_rules.proofs.UtcLaws.{time-count, count-lowest-first, utc-lowest-first}
+use Rattle.layouts_rules.specs.declared.Layout.{Layout}
+use Rattle.layouts_rules.specs.Layouts.{placesOf, ownLayout, layoutOf}
+use Rattle.trailer_rules.specs.declared.Order.{Order}
+use Rattle.trailer_rules.specs.declared.Order.the-variants.{AsPrinted}
+use Rattle.telegram_rules.specs.declared.write.Setting.{Setting}
+use Rattle.telegram_rules.specs.declared.write.Choice.{Choice}
+use Rattle.telegram_rules.specs.declared.write.Choice.the-variants.{Named, NamedIn, Unnamed}
+use Rattle.telegram_rules.specs.Reading.{bodyIn, framed, carried, bodyRefusal, readIn}
+use Rattle.telegram_rules.specs.Writing.{telegramIn, as6021, judgedOf, recordBy, recordToWrite, controlOf, orderOf, telegramFor, written}
 use Rattle.clock.specs.declared.Clock.{Clock}
 use Rattle.clock.specs.Stepping.{stepOf}
 use Rattle.clock.specs.Answers.{stepAnswer}

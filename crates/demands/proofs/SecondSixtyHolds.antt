@@ -1,21 +1,21 @@
 -- Document 02, b, holds. Assumes nothing.
 use mathlib.Core.Path.{refl}
 use Rattle.refusals.specs.Refusals.{unless}
-use Rattle.places.specs.Places.{isDecimal, isCapital, codeValue}
-use Rattle.calendar.specs.Calendar.{isLeap, monthLength, monthInRange, dateInRange, dayExists, dateRefusal, monthStart, dayOf, dayNumber, seek, monthHolding, dateAt}
-use Rattle.calendar.specs.TimeOfDay.{timeInRange, timeRefusal, secondsOf, secondOfDay}
-use Rattle.record.specs.Season.{seasonShift, toUtc}
-use Rattle.record.specs.Moment.{momentOf}
-use Rattle.record.specs.Sixty.{sixtyBehind59, takesSixty}
-use Rattle.record.specs.Rule.{plainUtc, tableCanSay, statusAllowed, weekdayAllowed, weekdayAgrees, timeAllowed, timeAloneAllowed, timeAloneRefusal, datedRefusal}
-use Rattle.layouts.specs.Layouts.{placesOf, layoutOf}
-use Rattle.layouts.specs.Coding.{statusIn6021, statusIn5500}
-use Rattle.telegram.specs.Reading.{carried, bodyRefusal, readIn}
-use Rattle.record.proofs.SixtyLaws.{fields-say-the-same}
-use Rattle.record.proofs.FollowingLaws.{accepted-exactly, sixty-goes-to-00, same-with-59-decides, sixty-shares, one-without-follower, no-follower-no-number, counts-in-calendar}
-use Rattle.record.proofs.LastSixtyHolds.{last-is-good}
+use Rattle.places_rules.specs.Places.{isDecimal, isCapital, codeValue}
+use Rattle.calendar_rules.specs.Calendar.{isLeap, monthLength, monthInRange, dateInRange, dayExists, dateRefusal, monthStart, dayOf, dayNumber, seek, monthHolding, dateAt}
+use Rattle.calendar_rules.specs.TimeOfDay.{timeInRange, timeRefusal, secondsOf, secondOfDay}
+use Rattle.record_rules.specs.Season.{seasonShift, toUtc}
+use Rattle.record_rules.specs.Moment.{momentOf}
+use Rattle.record_rules.specs.Sixty.{sixtyBehind59, takesSixty}
+use Rattle.record_rules.specs.Rule.{plainUtc, tableCanSay, statusAllowed, weekdayAllowed, weekdayAgrees, timeAllowed, timeAloneAllowed, timeAloneRefusal, datedRefusal}
+use Rattle.layouts_rules.specs.Layouts.{placesOf, layoutOf}
+use Rattle.layouts_rules.specs.Coding.{statusIn6021, statusIn5500}
+use Rattle.telegram_rules.specs.Reading.{carried, bodyRefusal, readIn}
+use Rattle.record_rules.proofs.SixtyLaws.{fields-say-the-same}
+use Rattle.record_rules.proofs.FollowingLaws.{accepted-exactly, sixty-goes-to-00, same-with-59-decides, sixty-shares, one-without-follower, no-follower-no-number, counts-in-calendar}
+use Rattle.record_rules.proofs.LastSixtyHolds.{last-is-good}
 use Rattle.clock.proofs.RunLaws.{last-sixty-gives-12}
-use Rattle.leitch.proofs.RuleLaws.{good, time-good}
+use Rattle.leitch_rules.proofs.RuleLaws.{good, time-good}
 use Rattle.demands.specs.SecondSixty.{TheSixtyTelegramsAreRead, LeitchAnswersStayAt59, TheLastSixtyIsNotAdvanced, SecondSixtyIsAsAskedFor}
 use Rattle.demands.proofs.Demand2Holds.{second-refused-is-not-advanced, neither-makes-a-sixty}
 

@@ -6,26 +6,26 @@ use Prim.Native.Nat.{ℕ}
 use native.Mathlib.Omega.{arith}
 use lib.ListN.{length, drop}
 use Rattle.refusals.specs.Refusals.{Outcome, done, refused, unless}
-use Rattle.places.specs.Places.{isDecimal, isCapital, codeValue, codeCharacter, render}
-use Rattle.calendar.specs.TimeOfDay.{timeInRange}
-use Rattle.record.specs.declared.TimeLayout.the-variants.{T6021}
-use Rattle.record.specs.declared.Record.{Record}
-use Rattle.record.specs.declared.Record.the-variants.{Dated, TimeOnly}
-use Rattle.record.specs.declared.RecordAnswer.the-variants as answer
-use Rattle.record.specs.Rule.{timeAloneAllowed, timeAloneRefusal, refusalOf}
-use Rattle.layouts.specs.Layouts.{placesOf, layoutOf}
-use Rattle.trailer.specs.declared.Order.the-variants.{AsPrinted}
-use Rattle.telegram.specs.Reading.{carried, bodyRefusal, readIn}
-use Rattle.telegram.specs.Writing.{bodyBytes, telegramOf}
+use Rattle.places_rules.specs.Places.{isDecimal, isCapital, codeValue, codeCharacter, render}
+use Rattle.calendar_rules.specs.TimeOfDay.{timeInRange}
+use Rattle.record_rules.specs.declared.TimeLayout.the-variants.{T6021}
+use Rattle.record_rules.specs.declared.Record.{Record}
+use Rattle.record_rules.specs.declared.Record.the-variants.{Dated, TimeOnly}
+use Rattle.record_rules.specs.declared.RecordAnswer.the-variants as answer
+use Rattle.record_rules.specs.Rule.{timeAloneAllowed, timeAloneRefusal, refusalOf}
+use Rattle.layouts_rules.specs.Layouts.{placesOf, layoutOf}
+use Rattle.trailer_rules.specs.declared.Order.the-variants.{AsPrinted}
+use Rattle.telegram_rules.specs.Reading.{carried, bodyRefusal, readIn}
+use Rattle.telegram_rules.specs.Writing.{bodyBytes, telegramOf}
 use Rattle.line.specs.declared.Reader.{Reader}
 use Rattle.line.specs.declared.Fed.{Fed}
-use Rattle.line.specs.declared.Heard.{Heard}
-use Rattle.line.specs.declared.Heard.the-variants.{Nothing, Event, Refused}
+use Rattle.line_rules.specs.declared.Heard.{Heard}
+use Rattle.line_rules.specs.declared.Heard.the-variants.{Nothing, Event, Refused}
 use Rattle.line.specs.Readers.{readerOf, freshReader, wellFormedAt, feedReader, feedReaderAt}
-use Rattle.line.specs.Line.{lineWith}
-use Rattle.line.specs.Events.{heardThen}
+use Rattle.line_rules.specs.Line.{lineWith}
+use Rattle.line_rules.specs.Events.{heardThen}
 use Rattle.line.specs.Cuts.{feeding, Served, AllUsedUp}
-use Rattle.line.specs.SentLine.{Sent, bytesSent, eventsSent}
+use Rattle.line_rules.specs.SentLine.{Sent, bytesSent, eventsSent}
 use Rattle.demands.specs.Demand2.{WritesByTheTables, ReadsByTheTables}
 use Rattle.demands.specs.Demand3.{HandsBackThatList}
 use Rattle.demands.specs.Wrong.{refusingReader, answering, refusingLine, fixedRecord, fixedReader, fixedLine, idleWriter, firstPieceLine, withStray, inventingLine}

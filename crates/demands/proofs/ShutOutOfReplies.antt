@@ -5,11 +5,11 @@ use Prim.Native.Nat.{ℕ}
 use native.Mathlib.Omega.{arith}
 use lib.ListN.{length}
 use Rattle.refusals.specs.Refusals.{done, refused, unless}
-use Rattle.calendar.specs.Calendar.{isLeap, monthLength, monthInRange, dateInRange, dayExists, dateRefusal, monthStart, dayOf}
-use Rattle.calendar.specs.DayOfYear.{daysOfMonths, yearDay, dayOfYear}
-use Rattle.calendar.specs.TimeOfDay.{timeInRange}
-use Rattle.leitch.specs.Rule.{statusListed, weekdayListed, allInRange, weekdayAgrees, fieldsRefusal, dayAgrees, dayRefusal}
-use Rattle.leitch.specs.AsPrinted.{asPrinted}
+use Rattle.calendar_rules.specs.Calendar.{isLeap, monthLength, monthInRange, dateInRange, dayExists, dateRefusal, monthStart, dayOf}
+use Rattle.calendar_rules.specs.DayOfYear.{daysOfMonths, yearDay, dayOfYear}
+use Rattle.calendar_rules.specs.TimeOfDay.{timeInRange}
+use Rattle.leitch_rules.specs.Rule.{statusListed, weekdayListed, allInRange, weekdayAgrees, fieldsRefusal, dayAgrees, dayRefusal}
+use Rattle.leitch_rules.specs.AsPrinted.{asPrinted}
 use Rattle.demands.specs.Demand2OfReplies.{GoodReply, WritesReplies, ReadsReplies}
 use Rattle.demands.specs.WrongOfReplies.{refusingReplyReader, fixedReply, fixedReplyReader, idleReplyWriter}
 

@@ -8,20 +8,20 @@ use lib.Dec.{eqb}
 use lib.ListN.{length, set, replicate, length-set, length-replicate}
 use lib.Seq.{take-all}
 use Rattle.refusals.specs.Refusals.{Outcome, done, refused}
-use Rattle.calendar.specs.TimeOfDay.{timeInRange}
-use Rattle.record.specs.Rule.{timeAloneAllowed, timeAloneRefusal, refusalOf}
-use Rattle.telegram.specs.Writing.{telegramOf}
-use Rattle.telegram.proofs.BackAndForth.{written-reads-back}
-use Rattle.log.specs.declared.verify.Verified.the-variants.{AllGood, Bad}
-use Rattle.log.specs.Block.{blockSize}
-use Rattle.log.specs.Good.{isDone, readsWell, isGood}
-use Rattle.log.specs.Add.{placeAt, addOf}
-use Rattle.log.specs.OfTheLog.{FirstBad, FirstFreeBehindTheLastUsed}
-use Rattle.log.proofs.BlockHolds.{a-zeroed-block-is-good-and-empty}
-use Rattle.log.proofs.CheckLaws.{noticed}
-use Rattle.log.proofs.PlaceHolds.{an-add-goes-behind-the-last-used}
-use Rattle.log.proofs.AddLaws.{reads-place}
-use Rattle.log.proofs.FillHolds.{adds-fill-zeroed-blocks-in-order}
+use Rattle.calendar_rules.specs.TimeOfDay.{timeInRange}
+use Rattle.record_rules.specs.Rule.{timeAloneAllowed, timeAloneRefusal, refusalOf}
+use Rattle.telegram_rules.specs.Writing.{telegramOf}
+use Rattle.telegram_rules.proofs.BackAndForth.{written-reads-back}
+use Rattle.log_rules.specs.declared.verify.Verified.the-variants.{AllGood, Bad}
+use Rattle.log_rules.specs.Block.{blockSize}
+use Rattle.log_rules.specs.Good.{isDone, readsWell, isGood}
+use Rattle.log_rules.specs.Add.{placeAt, addOf}
+use Rattle.log_rules.specs.OfTheLog.{FirstBad, FirstFreeBehindTheLastUsed}
+use Rattle.log_rules.proofs.BlockHolds.{a-zeroed-block-is-good-and-empty}
+use Rattle.log_rules.proofs.CheckLaws.{noticed}
+use Rattle.log_rules.proofs.PlaceHolds.{an-add-goes-behind-the-last-used}
+use Rattle.log_rules.proofs.AddLaws.{reads-place}
+use Rattle.log_rules.proofs.FillHolds.{adds-fill-zeroed-blocks-in-order}
 use Rattle.demands.specs.Wrong.{fixedRecord}
 use Rattle.demands.specs.WrongOfTheLog.{idleAdd, refusingAdd, refusingReadBack, trustingVerify}
 use Rattle.demands.specs.TheLog.{ReadsBackWhatIsAdded, TakesTheFreeSlot, NamesTheFirstBad}

@@ -8,18 +8,18 @@ use lib.Dec.{eqb}
 use lib.ListN.{length, take, drop, length-take, length-drop}
 use borrow.Author.Tests.{eqb-true, eqb-false, eq-eqb, ne-eqb}
 use Rattle.refusals.specs.Refusals.{done, refused, unless}
-use Rattle.record.specs.declared.DatedLayout.the-variants.{L6021, L2000, L5500, L5050}
-use Rattle.record.specs.declared.TimeLayout.the-variants.{T6021, T5500, T5050}
-use Rattle.record.specs.declared.Record.{Record}
-use Rattle.layouts.specs.declared.Layout.{Layout}
-use Rattle.layouts.specs.declared.Layout.the-variants as layouts
-use Rattle.layouts.specs.Layouts.{placesOf, ownLayout, byTrailer, layoutOf}
-use Rattle.trailer.specs.declared.Order.{Order}
-use Rattle.trailer.proofs.TrailerLaws.{length-in-order}
-use Rattle.telegram.specs.Reading.{bodyOf, bodyIn}
-use Rattle.telegram.specs.Writing.{telegramIn, telegramOf}
-use Rattle.telegram.proofs.WriteLaws.{length-body, length-framed}
-use Rattle.telegram.proofs.InOrder.{length-telegram}
+use Rattle.record_rules.specs.declared.DatedLayout.the-variants.{L6021, L2000, L5500, L5050}
+use Rattle.record_rules.specs.declared.TimeLayout.the-variants.{T6021, T5500, T5050}
+use Rattle.record_rules.specs.declared.Record.{Record}
+use Rattle.layouts_rules.specs.declared.Layout.{Layout}
+use Rattle.layouts_rules.specs.declared.Layout.the-variants as layouts
+use Rattle.layouts_rules.specs.Layouts.{placesOf, ownLayout, byTrailer, layoutOf}
+use Rattle.trailer_rules.specs.declared.Order.{Order}
+use Rattle.trailer_rules.proofs.TrailerLaws.{length-in-order}
+use Rattle.telegram_rules.specs.Reading.{bodyOf, bodyIn}
+use Rattle.telegram_rules.specs.Writing.{telegramIn, telegramOf}
+use Rattle.telegram_rules.proofs.WriteLaws.{length-body, length-framed}
+use Rattle.telegram_rules.proofs.InOrder.{length-telegram}
 use Rattle.demands.specs.Lengths.{sevenLayouts, lengthIn, lengthOf}
 use Rattle.demands.specs.Numbers.{_givenWhen_, among, _byFirst_}
 

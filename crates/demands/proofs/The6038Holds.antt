@@ -9,33 +9,33 @@ use lib.ListN.{length, take, length-append}
 use borrow.Author.Tests.{eqb-true}
 use Rattle.refusals.specs.Refusals.{Outcome, done, refused, unless, after}
 use Rattle.lent_buffer.specs.OneBehindAnother.{Next, oneBehindAnother}
-use Rattle.places.specs.Places.{Place, fixed, fixedHolds, every, byteAt, render}
-use Rattle.record.specs.declared.DatedLayout.the-variants.{L6021, L2000, L5500, L5050}
-use Rattle.record.specs.declared.TimeLayout.the-variants.{T6021, T5500, T5050}
-use Rattle.record.specs.declared.Record.{Record}
-use Rattle.record.specs.declared.Record.the-variants.{Dated, TimeOnly}
-use Rattle.layouts.specs.declared.Layout.{Layout}
-use Rattle.layouts.specs.declared.Layout.the-variants as layouts
-use Rattle.layouts.specs.Layouts.{placesOf, ownLayout, layoutOf}
-use Rattle.layouts.proofs.RowLaws.{row-fits}
-use Rattle.layouts.specs.Coding.{digitsOut}
-use Rattle.board.proofs.Laws6038.{all-256-read-or-refused, switch-1-read-as-nothing, switch-1-written-off, read-then-write, write-then-read, off-on-never-written, not-offered-is-16}
-use Rattle.trailer.specs.declared.Order.{Order}
-use Rattle.trailer.specs.declared.Order.the-variants.{AsPrinted, Exchanged}
-use Rattle.trailer.specs.Trailer.{inOrder}
-use Rattle.trailer.proofs.TrailerLaws.{exchange-last}
-use Rattle.telegram.specs.declared.write.Setting.{Setting}
-use Rattle.telegram.specs.declared.write.Choice.the-variants.{Named, NamedIn}
-use Rattle.telegram.specs.Reading.{bodyRefusal, readBodyAs, readIn, readOf}
+use Rattle.places_rules.specs.Places.{Place, fixed, fixedHolds, every, byteAt, render}
+use Rattle.record_rules.specs.declared.DatedLayout.the-variants.{L6021, L2000, L5500, L5050}
+use Rattle.record_rules.specs.declared.TimeLayout.the-variants.{T6021, T5500, T5050}
+use Rattle.record_rules.specs.declared.Record.{Record}
+use Rattle.record_rules.specs.declared.Record.the-variants.{Dated, TimeOnly}
+use Rattle.layouts_rules.specs.declared.Layout.{Layout}
+use Rattle.layouts_rules.specs.declared.Layout.the-variants as layouts
+use Rattle.layouts_rules.specs.Layouts.{placesOf, ownLayout, layoutOf}
+use Rattle.layouts_rules.proofs.RowLaws.{row-fits}
+use Rattle.layouts_rules.specs.Coding.{digitsOut}
+use Rattle.board_rules.proofs.Laws6038.{all-256-read-or-refused, switch-1-read-as-nothing, switch-1-written-off, read-then-write, write-then-read, off-on-never-written, not-offered-is-16}
+use Rattle.trailer_rules.specs.declared.Order.{Order}
+use Rattle.trailer_rules.specs.declared.Order.the-variants.{AsPrinted, Exchanged}
+use Rattle.trailer_rules.specs.Trailer.{inOrder}
+use Rattle.trailer_rules.proofs.TrailerLaws.{exchange-last}
+use Rattle.telegram_rules.specs.declared.write.Setting.{Setting}
+use Rattle.telegram_rules.specs.declared.write.Choice.the-variants.{Named, NamedIn}
+use Rattle.telegram_rules.specs.Reading.{bodyRefusal, readBodyAs, readIn, readOf}
 use Rattle.telegram.specs.SeveralTelegrams.{withMore, unlessEnded, severalAfter}
-use Rattle.telegram.specs.Writing.{bodyBytes, telegramIn, telegramFor, nextTelegram}
-use Rattle.telegram.proofs.Frames.{body-of-frame, frame-is-framed}
-use Rattle.telegram.proofs.InOrder.{telegram-seen, read-seen, reads-back}
-use Rattle.leitch.specs.Row.{replyRow}
-use Rattle.leitch.specs.Writing.{replyBytes}
+use Rattle.telegram_rules.specs.Writing.{bodyBytes, telegramIn, telegramFor, nextTelegram}
+use Rattle.telegram_rules.proofs.Frames.{body-of-frame, frame-is-framed}
+use Rattle.telegram_rules.proofs.InOrder.{telegram-seen, read-seen, reads-back}
+use Rattle.leitch_rules.specs.Row.{replyRow}
+use Rattle.leitch_rules.specs.Writing.{replyBytes}
 use Rattle.line.proofs.OrderHolds.{every-order-is-well-formed, the-order-stays}
-use Rattle.log.specs.Add.{addOf}
-use Rattle.log.proofs.AddLaws.{own-refusal}
+use Rattle.log_rules.specs.Add.{addOf}
+use Rattle.log_rules.proofs.AddLaws.{own-refusal}
 use Rattle.demands.specs.ProgramsOfTheLog.{adds}
 use Rattle.demands.specs.Lengths.{sevenLayouts, lengthOf}
 use Rattle.demands.specs.Numbers.{_givenWhen_, among, firstOf, _byFirst_}

@@ -1,13 +1,13 @@
 -- Document 02, c, holds. Assumes nothing.
 use mathlib.Core.Path.{_∙_}
-use Rattle.log.specs.Add.{addOf}
-use Rattle.log.proofs.BlockHolds.{a-good-block-is-made-by-its-telegrams, a-good-block-has-512-bytes, a-zeroed-block-is-good-and-empty}
-use Rattle.log.proofs.CheckLaws.{noticed, the-sum-fits, one-reduction-is-enough}
-use Rattle.log.proofs.PlaceHolds.{verify-names-the-first-bad-block, no-blocks-are-good-and-full, an-add-goes-behind-the-last-used, that-place-is-taken, no-such-place-is-refused}
-use Rattle.log.proofs.AddLaws.{reads-place}
-use Rattle.log.proofs.AddHolds.{what-is-added-is-read-back, what-was-read-back-still-is, good-blocks-stay-good, no-other-byte-changes, a-refused-add-leaves-the-region, a-block-spoils-no-other}
+use Rattle.log_rules.specs.Add.{addOf}
+use Rattle.log_rules.proofs.BlockHolds.{a-good-block-is-made-by-its-telegrams, a-good-block-has-512-bytes, a-zeroed-block-is-good-and-empty}
+use Rattle.log_rules.proofs.CheckLaws.{noticed, the-sum-fits, one-reduction-is-enough}
+use Rattle.log_rules.proofs.PlaceHolds.{verify-names-the-first-bad-block, no-blocks-are-good-and-full, an-add-goes-behind-the-last-used, that-place-is-taken, no-such-place-is-refused}
+use Rattle.log_rules.proofs.AddLaws.{reads-place}
+use Rattle.log_rules.proofs.AddHolds.{what-is-added-is-read-back, what-was-read-back-still-is, good-blocks-stay-good, no-other-byte-changes, a-refused-add-leaves-the-region, a-block-spoils-no-other}
 use Rattle.log.proofs.HandOutLaws.{zero-tells}
-use Rattle.log.proofs.FillHolds.{adds-fill-zeroed-blocks-in-order}
+use Rattle.log_rules.proofs.FillHolds.{adds-fill-zeroed-blocks-in-order}
 use Rattle.demands.specs.TheLog.{AnAddedTelegramIsReadBack, AnAddTakesTheFreeSlot, TheFirstBadBlockIsNamed, TheLogIsAsAskedFor}
 
 pub an-added-telegram-is-read-back : AnAddedTelegramIsReadBack

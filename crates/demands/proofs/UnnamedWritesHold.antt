@@ -17,34 +17,34 @@ use Rattle.lent_buffer.specs.OneBehindAnother.{joined, partThen, oneBehindAnoth
 use Rattle.lent_buffer.proofs.LayingLaws.{within-short, within-fits, within-refused, within-done}
 use Rattle.lent_buffer.proofs.OneBehindAnotherLaws.{no-part, first-part}
 use Rattle.ascii.specs.Control.{stx, etx}
-use Rattle.places.specs.Places.{codeCharacter, render}
-use Rattle.calendar.specs.Calendar.{isLeap, monthLength, monthInRange, dateInRange, dayExists, monthStart, dayOf}
-use Rattle.calendar.specs.TimeOfDay.{timeInRange}
-use Rattle.record.specs.declared.DatedLayout.{DatedLayout}
-use Rattle.record.specs.declared.DatedLayout.the-variants.{L6021, L2000, L5500, L5050}
-use Rattle.record.specs.declared.Record.{Record}
-use Rattle.record.specs.declared.Record.the-variants.{Dated, TimeOnly}
-use Rattle.record.specs.declared.RecordAnswer.the-variants as answer
-use Rattle.record.specs.Rule.{statusAllowed, weekdayAllowed, weekdayAgrees, timeAllowed, datedRefusal, refusalOf, carriesDate}
-use Rattle.record.specs.Next.{recordAfter, nextSecondOf}
-use Rattle.layouts.specs.declared.Layout.the-variants as layouts
-use Rattle.layouts.specs.Layouts.{placesOf, ownLayout}
-use Rattle.layouts.specs.Coding.{statusOut6021}
-use Rattle.trailer.specs.declared.Order.the-variants.{AsPrinted}
-use Rattle.telegram.specs.declared.write.Setting.{Setting}
-use Rattle.telegram.specs.declared.write.Choice.{Choice}
-use Rattle.telegram.specs.declared.write.Choice.the-variants.{Named, NamedIn, Unnamed}
+use Rattle.places_rules.specs.Places.{codeCharacter, render}
+use Rattle.calendar_rules.specs.Calendar.{isLeap, monthLength, monthInRange, dateInRange, dayExists, monthStart, dayOf}
+use Rattle.calendar_rules.specs.TimeOfDay.{timeInRange}
+use Rattle.record_rules.specs.declared.DatedLayout.{DatedLayout}
+use Rattle.record_rules.specs.declared.DatedLayout.the-variants.{L6021, L2000, L5500, L5050}
+use Rattle.record_rules.specs.declared.Record.{Record}
+use Rattle.record_rules.specs.declared.Record.the-variants.{Dated, TimeOnly}
+use Rattle.record_rules.specs.declared.RecordAnswer.the-variants as answer
+use Rattle.record_rules.specs.Rule.{statusAllowed, weekdayAllowed, weekdayAgrees, timeAllowed, datedRefusal, refusalOf, carriesDate}
+use Rattle.record_rules.specs.Next.{recordAfter, nextSecondOf}
+use Rattle.layouts_rules.specs.declared.Layout.the-variants as layouts
+use Rattle.layouts_rules.specs.Layouts.{placesOf, ownLayout}
+use Rattle.layouts_rules.specs.Coding.{statusOut6021}
+use Rattle.trailer_rules.specs.declared.Order.the-variants.{AsPrinted}
+use Rattle.telegram_rules.specs.declared.write.Setting.{Setting}
+use Rattle.telegram_rules.specs.declared.write.Choice.{Choice}
+use Rattle.telegram_rules.specs.declared.write.Choice.the-variants.{Named, NamedIn, Unnamed}
 use Rattle.telegram.specs.SeveralTelegrams.{withMore, unlessEnded, severalAfter}
-use Rattle.telegram.specs.Writing.{bodyBytes, telegramIn, telegramOf, as6021, judgedOf, recordBy, recordToWrite, controlOf, orderOf, telegramFor, nextTelegram, telegramsIn}
-use Rattle.telegram.proofs.WriteLaws.{telegram-refused, telegram-made, was-made}
-use Rattle.telegram.proofs.ReadsBack.{written-is-good}
+use Rattle.telegram_rules.specs.Writing.{bodyBytes, telegramIn, telegramOf, as6021, judgedOf, recordBy, recordToWrite, controlOf, orderOf, telegramFor, nextTelegram, telegramsIn}
+use Rattle.telegram_rules.proofs.WriteLaws.{telegram-refused, telegram-made, was-made}
+use Rattle.telegram_rules.proofs.ReadsBack.{written-is-good}
 use Rattle.telegram.proofs.SeveralLaws.{stood-as, several-stand}
 use Rattle.line.specs.declared.Reader.{Reader}
-use Rattle.line.specs.declared.Heard.the-variants.{Event}
-use Rattle.line.specs.Line.{isPlain, allPlain}
+use Rattle.line_rules.specs.declared.Heard.the-variants.{Event}
+use Rattle.line_rules.specs.Line.{isPlain, allPlain}
 use Rattle.line.specs.Cuts.{Calls}
-use Rattle.line.specs.SentLine.{Sent, bytesSent, noStx, eventsSent, straySent}
-use Rattle.line.proofs.SentLaws.{plain-body}
+use Rattle.line_rules.specs.SentLine.{Sent, bytesSent, noStx, eventsSent, straySent}
+use Rattle.line_rules.proofs.SentLaws.{plain-body}
 use Rattle.demands.specs.Lengths.{lengthOf}
 use Rattle.demands.specs.Demand2.{Good}
 use Rattle.demands.specs.Demand3.{GoodTelegrams, NoStxAround, GivesBack, HandsBack}

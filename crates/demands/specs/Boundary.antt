@@ -5,20 +5,20 @@ use mathlib.Core.Path.{_≡_}
 use Prim.Native.Nat.{ℕ}
 use Rattle.refusals.specs.Refusals.{Outcome, done, refused}
 use Rattle.refusals.specs.Tables.{EachHolds}
-use Rattle.calendar.specs.Literals.{date, time}
-use Rattle.record.specs.declared.DatedLayout.the-variants.{L6021, L5500}
-use Rattle.record.specs.declared.TimeLayout.the-variants.{T6021, T5500}
-use Rattle.record.specs.declared.Reception.the-variants.{Crystal, Radio, High}
-use Rattle.record.specs.declared.Status.{Status}
-use Rattle.record.specs.declared.Record.{Record}
-use Rattle.record.specs.declared.Record.the-variants.{Dated, TimeOnly}
-use Rattle.record.specs.declared.season.UtcSeconds.{UtcSeconds}
-use Rattle.record.specs.Literals.{statusOf}
-use Rattle.record.specs.Utc.{utcSeconds}
-use Rattle.telegram.specs.Reading.{readOf}
-use Rattle.board.specs.declared.Parity.the-variants.{None}
-use Rattle.board.specs.declared.of_6036.Parameter.{Parameter}
-use Rattle.board.specs.Of6036.{parameterIn}
+use Rattle.calendar_rules.specs.Literals.{date, time}
+use Rattle.record_rules.specs.declared.DatedLayout.the-variants.{L6021, L5500}
+use Rattle.record_rules.specs.declared.TimeLayout.the-variants.{T6021, T5500}
+use Rattle.record_rules.specs.declared.Reception.the-variants.{Crystal, Radio, High}
+use Rattle.record_rules.specs.declared.Status.{Status}
+use Rattle.record_rules.specs.declared.Record.{Record}
+use Rattle.record_rules.specs.declared.Record.the-variants.{Dated, TimeOnly}
+use Rattle.record_rules.specs.declared.season.UtcSeconds.{UtcSeconds}
+use Rattle.record_rules.specs.Literals.{statusOf}
+use Rattle.record_rules.specs.Utc.{utcSeconds}
+use Rattle.telegram_rules.specs.Reading.{readOf}
+use Rattle.board_rules.specs.declared.Parity.the-variants.{None}
+use Rattle.board_rules.specs.declared.of_6036.Parameter.{Parameter}
+use Rattle.board_rules.specs.Of6036.{parameterIn}
 use Rattle.ascii.specs.Ascii.{ascii}
 use Rattle.ascii.specs.Control.{stx, etx, lfCr, crLf}
 

@@ -12,37 +12,37 @@ use Rattle.refusals.specs.Refusals.{refused}
 use Rattle.lent_buffer.specs.declared.Ending.the-variants as ending
 use Rattle.lent_buffer.specs.Laying.{laid}
 use Rattle.lent_buffer.specs.Answers.{endingAnswer}
-use Rattle.calendar.specs.Calendar.{monthInRange, isLastDay, daysInMonth, dayNumber, dateOf, nextDay}
-use Rattle.calendar.specs.TimeOfDay.{timeInRange, secondOfDay, nextSecond}
-use Rattle.calendar.specs.declared.date.Date.{Date}
-use Rattle.calendar.specs.declared.time.Time.{Time}
-use Rattle.record.specs.declared.Record.{Record}
-use Rattle.record.specs.declared.season.LocalSeconds.{LocalSeconds}
-use Rattle.record.specs.Season.{toUtc}
-use Rattle.record.specs.Rule.{refusalOf}
-use Rattle.record.specs.Next.{nextSecondOf}
-use Rattle.record.specs.Utc.{countOf, utcSeconds}
-use Rattle.trailer.specs.declared.Order.{Order}
-use Rattle.telegram.specs.declared.write.Choice.{Choice}
+use Rattle.calendar_rules.specs.Calendar.{monthInRange, isLastDay, daysInMonth, dayNumber, dateOf, nextDay}
+use Rattle.calendar_rules.specs.TimeOfDay.{timeInRange, secondOfDay, nextSecond}
+use Rattle.calendar_rules.specs.declared.date.Date.{Date}
+use Rattle.calendar_rules.specs.declared.time.Time.{Time}
+use Rattle.record_rules.specs.declared.Record.{Record}
+use Rattle.record_rules.specs.declared.season.LocalSeconds.{LocalSeconds}
+use Rattle.record_rules.specs.Season.{toUtc}
+use Rattle.record_rules.specs.Rule.{refusalOf}
+use Rattle.record_rules.specs.Next.{nextSecondOf}
+use Rattle.record_rules.specs.Utc.{countOf, utcSeconds}
+use Rattle.trailer_rules.specs.declared.Order.{Order}
+use Rattle.telegram_rules.specs.declared.write.Choice.{Choice}
 use Rattle.telegram.specs.declared.several.Several.{Several}
-use Rattle.telegram.specs.Reading.{readIn}
+use Rattle.telegram_rules.specs.Reading.{readIn}
 use Rattle.telegram.specs.SeveralTelegrams.{severalAfter}
-use Rattle.telegram.specs.Writing.{telegramFor, written}
+use Rattle.telegram_rules.specs.Writing.{telegramFor, written}
 use Rattle.line.specs.declared.Reader.{Reader}
-use Rattle.line.specs.declared.Heard.the-variants.{Refused}
+use Rattle.line_rules.specs.declared.Heard.the-variants.{Refused}
 use Rattle.line.specs.Readers.{wellFormed, AsDeclared, feedReader, endReader}
 use Rattle.line.specs.Pieces.{passing}
 use Rattle.line.specs.Pieces as pieces
 use Rattle.clock.specs.declared.Clock.{Clock}
 use Rattle.clock.specs.Stepping.{stepOf}
 use Rattle.clock.specs.Answers.{stepAnswer}
-use Rattle.board.specs.declared.of_6036.Parameter.{Parameter}
-use Rattle.board.specs.declared.of_6038.Parameter.{Parameter as Parameter6038}
-use Rattle.board.specs.Of6036.{offered, byteFor}
-use Rattle.board.specs.Of6038 as of-6038
-use Rattle.board.specs.RoundTrip6038.{isOffOn}
-use Rattle.places.specs.Places.{Place, foundIn}
-use Rattle.layouts.specs.Layouts.{layoutOf}
+use Rattle.board_rules.specs.declared.of_6036.Parameter.{Parameter}
+use Rattle.board_rules.specs.declared.of_6038.Parameter.{Parameter as Parameter6038}
+use Rattle.board_rules.specs.Of6036.{offered, byteFor}
+use Rattle.board_rules.specs.Of6038 as of-6038
+use Rattle.board_rules.specs.RoundTrip6038.{isOffOn}
+use Rattle.places_rules.specs.Places.{Place, foundIn}
+use Rattle.layouts_rules.specs.Layouts.{layoutOf}
 use Rattle.demands.specs.Lengths.{sevenLayouts, lengthOf}
 use Rattle.demands.specs.Numbers.{_givenWhen_, lowest, among, _refusedBy_, _doneOr_, _noneOr_, _silentOr_, EachSilentOr}
 use Rattle.demands.specs.Rules.{placeRules, dateRules, recordRules, readingRules, nextSecondRules, writingRules, countRules, shiftRules, utcRules, stepRules}

@@ -8,16 +8,16 @@ use lib.ListN.{length}
 use Rattle.refusals.specs.Refusals.{refused}
 use Rattle.ascii.specs.Ascii.{ascii}
 use Rattle.lent_buffer.specs.Laying.{laid}
-use Rattle.places.specs.Places.{isDecimal, isCapital}
-use Rattle.calendar.specs.Calendar.{dateInRange, dayExists}
-use Rattle.calendar.specs.TimeOfDay.{timeInRange}
-use Rattle.calendar.specs.DayOfYear.{dayOfYear}
-use Rattle.calendar.specs.declared.date.Date.{Date}
-use Rattle.leitch.specs.declared.Reply.{Reply}
-use Rattle.leitch.specs.Row.{replyRow}
-use Rattle.leitch.specs.Rule.{statusListed, weekdayListed, weekdayAgrees, dayAgrees}
-use Rattle.leitch.specs.Reading.{carried, replyOf}
-use Rattle.leitch.specs.Writing.{written}
+use Rattle.places_rules.specs.Places.{isDecimal, isCapital}
+use Rattle.calendar_rules.specs.Calendar.{dateInRange, dayExists}
+use Rattle.calendar_rules.specs.TimeOfDay.{timeInRange}
+use Rattle.calendar_rules.specs.DayOfYear.{dayOfYear}
+use Rattle.calendar_rules.specs.declared.date.Date.{Date}
+use Rattle.leitch_rules.specs.declared.Reply.{Reply}
+use Rattle.leitch_rules.specs.Row.{replyRow}
+use Rattle.leitch_rules.specs.Rule.{statusListed, weekdayListed, weekdayAgrees, dayAgrees}
+use Rattle.leitch_rules.specs.Reading.{carried, replyOf}
+use Rattle.leitch_rules.specs.Writing.{written}
 use Rattle.requests.specs.Requests.{requestOf}
 use Rattle.demands.specs.Numbers.{Rule, _givenWhen_, among, _refusedBy_, _doneOr_}
 use Rattle.demands.specs.Rules.{placeRules, dateRules}

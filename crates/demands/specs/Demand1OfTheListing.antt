@@ -9,14 +9,14 @@ use Rattle.refusals.specs.Refusals.{done, refused}
 use Rattle.lent_buffer.specs.declared.Ending.the-variants as ending
 use Rattle.lent_buffer.specs.Laying.{laid}
 use Rattle.lent_buffer.specs.OneBehindAnother.{endingIn}
-use Rattle.record.specs.declared.RecordAnswer.{RecordAnswer}
-use Rattle.record.specs.declared.RecordAnswer.the-variants as answer
+use Rattle.record_rules.specs.declared.RecordAnswer.{RecordAnswer}
+use Rattle.record_rules.specs.declared.RecordAnswer.the-variants as answer
 use Rattle.line.specs.declared.Reader.{Reader}
-use Rattle.line.specs.declared.Heard.{Heard}
-use Rattle.line.specs.declared.Heard.the-variants.{Nothing, Event, Refused}
+use Rattle.line_rules.specs.declared.Heard.{Heard}
+use Rattle.line_rules.specs.declared.Heard.the-variants.{Nothing, Event, Refused}
 use Rattle.line.specs.Readers.{wellFormed, lineOf, AsDeclared}
-use Rattle.line.specs.Events.{eventsOf}
-use Rattle.listing.specs.Listing.{headerRow, recordRow, refusedRow, eventRow, strayRow}
+use Rattle.line_rules.specs.Events.{eventsOf}
+use Rattle.listing_rules.specs.Listing.{headerRow, recordRow, refusedRow, eventRow, strayRow}
 use Rattle.listing_of_lines.specs.Pages.{rowFor, stopped, pageOf}
 use Rattle.listing_of_lines.specs.Whole.{rowsOf}
 use Rattle.demands.specs.Numbers.{Rule, _givenWhen_, _refusedBy_, _doneOr_}

@@ -6,15 +6,15 @@ use mathlib.Core.Path.{_≡_}
 use Prim.Native.Nat.{ℕ}
 use lib.Dec.{ltb}
 use Rattle.refusals.specs.Refusals.{Outcome, done, refused}
-use Rattle.trailer.specs.declared.Order.the-variants.{AsPrinted}
-use Rattle.log.specs.declared.verify.Verified.{Verified}
-use Rattle.log.specs.declared.verify.Verified.the-variants.{AllGood, Bad, Refused}
-use Rattle.log.specs.Block.{slots}
-use Rattle.log.specs.Good.{countIn, isGood}
-use Rattle.log.specs.Region.{isWhole, blocksIn, wholeBlocks, blockAt}
-use Rattle.log.specs.Verify.{verifyOf}
-use Rattle.log.specs.Add.{someUsed, addOf}
-use Rattle.log.specs.ReadBack.{readBackOf}
+use Rattle.trailer_rules.specs.declared.Order.the-variants.{AsPrinted}
+use Rattle.log_rules.specs.declared.verify.Verified.{Verified}
+use Rattle.log_rules.specs.declared.verify.Verified.the-variants.{AllGood, Bad, Refused}
+use Rattle.log_rules.specs.Block.{slots}
+use Rattle.log_rules.specs.Good.{countIn, isGood}
+use Rattle.log_rules.specs.Region.{isWhole, blocksIn, wholeBlocks, blockAt}
+use Rattle.log_rules.specs.Verify.{verifyOf}
+use Rattle.log_rules.specs.Add.{someUsed, addOf}
+use Rattle.log_rules.specs.ReadBack.{readBackOf}
 use Rattle.demands.specs.Numbers.{Rule, _givenWhen_, _byFirst_, _doneOr_}
 use Rattle.demands.specs.Rules.{readingRules}
 

@@ -8,26 +8,26 @@ use Prim.Native.Nat.{ℕ, _+_, _%_, _≤_}
 use lib.ListN.{length, drop}
 use Rattle.refusals.specs.Refusals.{Outcome, done}
 use Rattle.lent_buffer.specs.Laying.{laidIn}
-use Rattle.places.specs.Places.{byteAt}
-use Rattle.calendar.specs.TimeOfDay.{secondsOf}
-use Rattle.calendar.specs.declared.time.Time.{Time}
-use Rattle.record.specs.declared.TimeLayout.{TimeLayout}
-use Rattle.record.specs.declared.Record.{Record}
-use Rattle.record.specs.declared.Record.the-variants.{TimeOnly}
-use Rattle.record.specs.declared.season.Count.{Count}
-use Rattle.record.specs.Season.{secondsLater}
-use Rattle.record.specs.Rule.{refusalOf, is60}
-use Rattle.record.specs.Next.{nextSecondOf}
-use Rattle.record.specs.Utc.{countOf}
-use Rattle.record.specs.Following.{secondsOn}
-use Rattle.layouts.specs.Layouts.{placesOf, ownLayout}
-use Rattle.layouts.specs.Coding.{digitsOut}
-use Rattle.trailer.specs.declared.Order.{Order}
-use Rattle.trailer.specs.declared.Order.the-variants.{AsPrinted}
-use Rattle.trailer.specs.Trailer.{inOrder}
-use Rattle.telegram.specs.declared.write.Choice.{Choice}
-use Rattle.telegram.specs.declared.write.Choice.the-variants.{NamedIn, Unnamed}
-use Rattle.telegram.specs.Writing.{telegramIn, as6021, controlOf, orderOf}
+use Rattle.places_rules.specs.Places.{byteAt}
+use Rattle.calendar_rules.specs.TimeOfDay.{secondsOf}
+use Rattle.calendar_rules.specs.declared.time.Time.{Time}
+use Rattle.record_rules.specs.declared.TimeLayout.{TimeLayout}
+use Rattle.record_rules.specs.declared.Record.{Record}
+use Rattle.record_rules.specs.declared.Record.the-variants.{TimeOnly}
+use Rattle.record_rules.specs.declared.season.Count.{Count}
+use Rattle.record_rules.specs.Season.{secondsLater}
+use Rattle.record_rules.specs.Rule.{refusalOf, is60}
+use Rattle.record_rules.specs.Next.{nextSecondOf}
+use Rattle.record_rules.specs.Utc.{countOf}
+use Rattle.record_rules.specs.Following.{secondsOn}
+use Rattle.layouts_rules.specs.Layouts.{placesOf, ownLayout}
+use Rattle.layouts_rules.specs.Coding.{digitsOut}
+use Rattle.trailer_rules.specs.declared.Order.{Order}
+use Rattle.trailer_rules.specs.declared.Order.the-variants.{AsPrinted}
+use Rattle.trailer_rules.specs.Trailer.{inOrder}
+use Rattle.telegram_rules.specs.declared.write.Choice.{Choice}
+use Rattle.telegram_rules.specs.declared.write.Choice.the-variants.{NamedIn, Unnamed}
+use Rattle.telegram_rules.specs.Writing.{telegramIn, as6021, controlOf, orderOf}
 use Rattle.clock.specs.Running.{NoStepMakesASixty}
 use Rattle.demands.specs.Programs.{reads, writes}
 use Rattle.demands.specs.Lengths.{lengthOf}

@@ -7,9 +7,9 @@ use Prim.Native.Nat.{ℕ, _≤_}
 use lib.ListN.{length, drop}
 use Rattle.refusals.specs.Refusals.{Outcome, done}
 use Rattle.lent_buffer.specs.Laying.{laidIn}
-use Rattle.leitch.specs.declared.Reply.{Reply}
-use Rattle.leitch.specs.Rule.{fieldsRefusal, dayRefusal}
-use Rattle.leitch.specs.AsPrinted.{asPrinted}
+use Rattle.leitch_rules.specs.declared.Reply.{Reply}
+use Rattle.leitch_rules.specs.Rule.{fieldsRefusal, dayRefusal}
+use Rattle.leitch_rules.specs.AsPrinted.{asPrinted}
 use Rattle.requests.specs.Exactly.{ACapitalLetterAsksAtOnce, ASmallLetterAsksAfterItsCount, NothingElseIsARequest, NoDelayIsLonger}
 use Rattle.demands.specs.ProgramsOfReplies.{readsReply, writesReply}
 

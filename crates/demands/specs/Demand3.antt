@@ -3,18 +3,18 @@ use mathlib.Core.Bool.{true}
 use mathlib.Core.List.{List, [], _∷_, map}
 use mathlib.Core.Path.{_≡_}
 use Prim.Native.Nat.{ℕ, _%_}
-use Rattle.record.specs.declared.Record.{Record}
-use Rattle.record.specs.Rule.{refusalOf}
-use Rattle.trailer.specs.declared.Order.{Order}
+use Rattle.record_rules.specs.declared.Record.{Record}
+use Rattle.record_rules.specs.Rule.{refusalOf}
+use Rattle.trailer_rules.specs.declared.Order.{Order}
 use Rattle.line.specs.declared.Reader.{Reader}
 use Rattle.line.specs.declared.Fed.{Fed}
-use Rattle.line.specs.declared.Heard.{Heard}
-use Rattle.line.specs.declared.Heard.the-variants.{Nothing}
+use Rattle.line_rules.specs.declared.Heard.{Heard}
+use Rattle.line_rules.specs.declared.Heard.the-variants.{Nothing}
 use Rattle.line.specs.Readers.{freshIn, endReader}
 use Rattle.line.specs.Cuts.{Calls, feeding, Served, bytesServed, heardOf, readerBehind, AllUsedUp, serve}
 use Rattle.line.specs.Pieces.{usingUp}
 use Rattle.line.specs.ReaderSentences.{SameByAnyCut, UsesUpAnyCut}
-use Rattle.line.specs.SentLine.{Sent, bytesSent, noStx, eventsSent, straySent}
+use Rattle.line_rules.specs.SentLine.{Sent, bytesSent, noStx, eventsSent, straySent}
 use Rattle.demands.specs.Programs.{feeds}
 
 -- "Take any list of good telegrams, layouts mixed at will, each written with control characters and without second advance,"

@@ -2,10 +2,10 @@
 use mathlib.Core.Bool.{Bool, cond}
 use mathlib.Core.List.{List, [], _∷_}
 use Prim.Native.Nat.{ℕ, _-_}
-use Rattle.record.specs.declared.DatedLayout.the-variants.{L6021, L2000, L5500, L5050}
-use Rattle.record.specs.declared.TimeLayout.the-variants.{T6021, T5500, T5050}
-use Rattle.layouts.specs.declared.Layout.{Layout}
-use Rattle.layouts.specs.declared.Layout.the-variants as layouts
+use Rattle.record_rules.specs.declared.DatedLayout.the-variants.{L6021, L2000, L5500, L5050}
+use Rattle.record_rules.specs.declared.TimeLayout.the-variants.{T6021, T5500, T5050}
+use Rattle.layouts_rules.specs.declared.Layout.{Layout}
+use Rattle.layouts_rules.specs.declared.Layout.the-variants as layouts
 
 abbrev pub sevenLayouts : List Layout
 sevenLayouts = layouts.Dated L6021 ∷ layouts.TimeOnly T6021 ∷ layouts.Dated L2000 ∷ layouts.Dated L5500 ∷ layouts.TimeOnly T5500 ∷ layouts.Dated L5050 ∷ layouts.TimeOnly T5050 ∷ []

@@ -6,16 +6,16 @@ use mathlib.Core.Path.{_≡_}
 use Prim.Native.Nat.{ℕ, _+_, _<_}
 use lib.ListN.{length}
 use Rattle.refusals.specs.Refusals.{refused}
-use Rattle.trailer.specs.declared.Order.{Order}
+use Rattle.trailer_rules.specs.declared.Order.{Order}
 use Rattle.line.specs.Readers.{lineOf}
-use Rattle.line.specs.Line.{Line, lineWith, event, toldByAt}
-use Rattle.line.specs.Events.{eventsAt, lineAfterAt, eventsOf, lineAfter}
+use Rattle.line_rules.specs.Line.{Line, lineWith, event, toldByAt}
+use Rattle.line_rules.specs.Events.{eventsAt, lineAfterAt, eventsOf, lineAfter}
 use Rattle.line.specs.LongerReaders.{TheEndCutsOffUpTo38, TheRuleIsTheOneAt38}
-use Rattle.line.specs.LongerTelegrams.{UpTo38BytesAreHeld, StxCutsOffUpTo38, TenIsGivenWhen38AreHeld, UpTo39BytesAreJudged}
+use Rattle.line_rules.specs.LongerTelegrams.{UpTo38BytesAreHeld, StxCutsOffUpTo38, TenIsGivenWhen38AreHeld, UpTo39BytesAreJudged}
 use Rattle.takeover.specs.declared.Kept.{Kept}
 use Rattle.takeover.specs.TakingOver.{keptPlaces, wasWellFormed, AsKept}
 use Rattle.takeover.specs.Sentences.{readerFor, lineKept, noTen, TheOldBoundIs24, RefusesWhatTheOldRuleRefused, WhatTheOldReaderLeftIsTakenOver, ARefusedStateComesBackUnchanged, MoreHeldThanThereWerePlacesIs15, WhatIsTakenOverIsTheSame, WhatIsTakenOverIsWellFormed, WithoutATenNothingDiffers, ACallWithoutATenIsTheSame, TheEndIsTheSame, WithoutATenEachCutIsTheSame}
-use Rattle.log.specs.LongestTelegram.{NoneAcceptedIsLonger, ThatManyFitASlot}
+use Rattle.log_rules.specs.LongestTelegram.{NoneAcceptedIsLonger, ThatManyFitASlot}
 use Rattle.demands.specs.Programs.{reads}
 
 -- no layout is longer than 25: a telegram that is, is judged, and refused with 1

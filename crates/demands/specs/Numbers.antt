@@ -5,9 +5,9 @@ use mathlib.Core.Path.{_≡_}
 use Prim.Native.Nat.{ℕ, zero, suc}
 use lib.Dec.{leb, eqb}
 use Rattle.refusals.specs.Refusals.{_when_, _else_, lower, Outcome, done, refused, unless, after}
-use Rattle.record.specs.Answers.{recordAnswer}
-use Rattle.line.specs.declared.Heard.{Heard}
-use Rattle.line.specs.declared.Heard.the-variants.{Nothing, Event, Refused}
+use Rattle.record_rules.specs.Answers.{recordAnswer}
+use Rattle.line_rules.specs.declared.Heard.{Heard}
+use Rattle.line_rules.specs.declared.Heard.the-variants.{Nothing, Event, Refused}
 
 -- a row of document 01's table of refusal numbers: "no. | given exactly when"
 infix 70 _givenWhen_

@@ -4,11 +4,11 @@ use mathlib.Core.Bool.{Bool}
 use mathlib.Core.List.{List}
 use Prim.Native.Nat.{ℕ}
 use Rattle.refusals.specs.Refusals.{Outcome}
-use Rattle.record.specs.declared.Record.{Record}
-use Rattle.trailer.specs.declared.Order.{Order}
-use Rattle.telegram.specs.declared.write.Choice.{Choice}
-use Rattle.telegram.specs.Reading.{readIn}
-use Rattle.telegram.specs.Writing.{written}
+use Rattle.record_rules.specs.declared.Record.{Record}
+use Rattle.trailer_rules.specs.declared.Order.{Order}
+use Rattle.telegram_rules.specs.declared.write.Choice.{Choice}
+use Rattle.telegram_rules.specs.Reading.{readIn}
+use Rattle.telegram_rules.specs.Writing.{written}
 use Rattle.line.specs.declared.Reader.{Reader}
 use Rattle.line.specs.declared.Fed.{Fed}
 use Rattle.line.specs.Readers.{feedReader}

@@ -3,9 +3,9 @@
 use mathlib.Core.List.{List}
 use Prim.Native.Nat.{ℕ}
 use Rattle.refusals.specs.Refusals.{Outcome}
-use Rattle.leitch.specs.declared.Reply.{Reply}
-use Rattle.leitch.specs.Reading.{replyOf}
-use Rattle.leitch.specs.Writing.{written}
+use Rattle.leitch_rules.specs.declared.Reply.{Reply}
+use Rattle.leitch_rules.specs.Reading.{replyOf}
+use Rattle.leitch_rules.specs.Writing.{written}
 
 -- a reply read
 abbrev pub readsReply : List ℕ → Outcome Reply

@@ -3,11 +3,11 @@
 use mathlib.Core.List.{List}
 use Prim.Native.Nat.{ℕ}
 use Rattle.refusals.specs.Refusals.{Outcome}
-use Rattle.log.specs.declared.Place.{Place}
-use Rattle.log.specs.declared.verify.Verified.{Verified}
-use Rattle.log.specs.Verify.{verifyOf}
-use Rattle.log.specs.Add.{addOf}
-use Rattle.log.specs.ReadBack.{readBackOf}
+use Rattle.log_rules.specs.declared.Place.{Place}
+use Rattle.log_rules.specs.declared.verify.Verified.{Verified}
+use Rattle.log_rules.specs.Verify.{verifyOf}
+use Rattle.log_rules.specs.Add.{addOf}
+use Rattle.log_rules.specs.ReadBack.{readBackOf}
 
 -- a telegram added to a region: the answer, and the region behind it
 abbrev pub adds : List ℕ → List ℕ → Outcome Place × List ℕ

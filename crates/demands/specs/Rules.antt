@@ -5,26 +5,26 @@ use Prim.Native.Nat.{ℕ, _+_, _*_}
 use lib.Dec.{ltb}
 use lib.ListN.{length}
 use Rattle.refusals.specs.Refusals.{Outcome, done, refused}
-use Rattle.places.specs.Places.{Place, fixedHolds, decimalHolds, codeHolds, every}
-use Rattle.calendar.specs.Ranges.{inside}
-use Rattle.calendar.specs.Calendar.{dateInRange, dayExists, dayOf}
-use Rattle.calendar.specs.TimeOfDay.{timeInRange, secondsOf}
-use Rattle.calendar.specs.declared.date.Date.{Date}
-use Rattle.record.specs.declared.Record.{Record}
-use Rattle.record.specs.declared.Record.the-variants.{Dated, TimeOnly}
-use Rattle.record.specs.declared.season.LocalSeconds.{LocalSeconds}
-use Rattle.record.specs.Season.{seasonShift}
-use Rattle.record.specs.Sixty.{sixtyBehind59, takesSixty}
-use Rattle.record.specs.Rule.{statusAllowed, weekdayAllowed, weekdayAgrees, carriesDate}
-use Rattle.record.specs.Next.{isLastOfCalendar}
-use Rattle.record.specs.Utc.{noneFollows}
-use Rattle.layouts.specs.declared.Layout.{Layout}
-use Rattle.layouts.specs.Layouts.{placesOf, ownLayout, layoutOf}
-use Rattle.trailer.specs.declared.Order.{Order}
-use Rattle.telegram.specs.declared.write.Setting.{Setting}
-use Rattle.telegram.specs.declared.write.Choice.{Choice}
-use Rattle.telegram.specs.declared.write.Choice.the-variants.{Named, NamedIn, Unnamed}
-use Rattle.telegram.specs.Reading.{bodyIn, framed, carried}
+use Rattle.places_rules.specs.Places.{Place, fixedHolds, decimalHolds, codeHolds, every}
+use Rattle.calendar_rules.specs.Ranges.{inside}
+use Rattle.calendar_rules.specs.Calendar.{dateInRange, dayExists, dayOf}
+use Rattle.calendar_rules.specs.TimeOfDay.{timeInRange, secondsOf}
+use Rattle.calendar_rules.specs.declared.date.Date.{Date}
+use Rattle.record_rules.specs.declared.Record.{Record}
+use Rattle.record_rules.specs.declared.Record.the-variants.{Dated, TimeOnly}
+use Rattle.record_rules.specs.declared.season.LocalSeconds.{LocalSeconds}
+use Rattle.record_rules.specs.Season.{seasonShift}
+use Rattle.record_rules.specs.Sixty.{sixtyBehind59, takesSixty}
+use Rattle.record_rules.specs.Rule.{statusAllowed, weekdayAllowed, weekdayAgrees, carriesDate}
+use Rattle.record_rules.specs.Next.{isLastOfCalendar}
+use Rattle.record_rules.specs.Utc.{noneFollows}
+use Rattle.layouts_rules.specs.declared.Layout.{Layout}
+use Rattle.layouts_rules.specs.Layouts.{placesOf, ownLayout, layoutOf}
+use Rattle.trailer_rules.specs.declared.Order.{Order}
+use Rattle.telegram_rules.specs.declared.write.Setting.{Setting}
+use Rattle.telegram_rules.specs.declared.write.Choice.{Choice}
+use Rattle.telegram_rules.specs.declared.write.Choice.the-variants.{Named, NamedIn, Unnamed}
+use Rattle.telegram_rules.specs.Reading.{bodyIn, framed, carried}
 use Rattle.demands.specs.Lengths.{sevenLayouts, lengthOf}
 use Rattle.demands.specs.Numbers.{Rule, _givenWhen_, among}
 

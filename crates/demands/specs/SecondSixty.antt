@@ -8,20 +8,20 @@ use Rattle.refusals.specs.Refusals.{done, refused}
 use Rattle.refusals.specs.Tables.{EachHolds}
 use Rattle.ascii.specs.Ascii.{ascii}
 use Rattle.ascii.specs.Control.{lfCr, crLf}
-use Rattle.calendar.specs.Literals.{date, time}
-use Rattle.record.specs.declared.DatedLayout.{DatedLayout}
-use Rattle.record.specs.declared.DatedLayout.the-variants.{L6021, L2000, L5500, L5050}
-use Rattle.record.specs.declared.TimeLayout.the-variants.{T6021}
-use Rattle.record.specs.declared.Status.{Status}
-use Rattle.record.specs.declared.Record.the-variants.{Dated, TimeOnly}
-use Rattle.record.specs.Literals.{standardTime, daylightTime, markedUtc}
-use Rattle.record.specs.Rule.{statusAllowed}
-use Rattle.record.specs.SixtyByFields.{TheFieldsSayTheSame}
-use Rattle.record.specs.Following.{ASixtyIsAcceptedExactlyThen, TheSameRecordWith59Decides, ASixtyGoesTo00, ASixtySharesItsFollowersNumber, OneSixtyHasNoFollower, TheLastSixtyIsGoodAndNoneFollows, WithoutAFollowerItHasNoNumber, NoCountIsBehindTheCalendar}
+use Rattle.calendar_rules.specs.Literals.{date, time}
+use Rattle.record_rules.specs.declared.DatedLayout.{DatedLayout}
+use Rattle.record_rules.specs.declared.DatedLayout.the-variants.{L6021, L2000, L5500, L5050}
+use Rattle.record_rules.specs.declared.TimeLayout.the-variants.{T6021}
+use Rattle.record_rules.specs.declared.Status.{Status}
+use Rattle.record_rules.specs.declared.Record.the-variants.{Dated, TimeOnly}
+use Rattle.record_rules.specs.Literals.{standardTime, daylightTime, markedUtc}
+use Rattle.record_rules.specs.Rule.{statusAllowed}
+use Rattle.record_rules.specs.SixtyByFields.{TheFieldsSayTheSame}
+use Rattle.record_rules.specs.Following.{ASixtyIsAcceptedExactlyThen, TheSameRecordWith59Decides, ASixtyGoesTo00, ASixtySharesItsFollowersNumber, OneSixtyHasNoFollower, TheLastSixtyIsGoodAndNoneFollows, WithoutAFollowerItHasNoNumber, NoCountIsBehindTheCalendar}
 use Rattle.clock.specs.Running.{TheLastSixtyGives12}
-use Rattle.trailer.specs.declared.Order.{Order}
-use Rattle.leitch.specs.declared.Reply.{Reply}
-use Rattle.leitch.specs.Rule.{fieldsRefusal}
+use Rattle.trailer_rules.specs.declared.Order.{Order}
+use Rattle.leitch_rules.specs.declared.Reply.{Reply}
+use Rattle.leitch_rules.specs.Rule.{fieldsRefusal}
 use Rattle.demands.specs.Demand2.{advanced, NeitherMakesASixty}
 use Rattle.demands.specs.Programs.{writes}
 use Rattle.demands.specs.Boundary.{BoundaryRow, telegram, BoundaryRowHolds}

@@ -9,29 +9,29 @@ use lib.Dec.{eqb}
 use lib.ListN.{length}
 use Rattle.refusals.specs.Refusals.{done, refused}
 use Rattle.ascii.specs.Control.{stx, etx, lf, cr, lfCr, crLf}
-use Rattle.calendar.specs.declared.time.Time.{Time}
-use Rattle.record.specs.declared.DatedLayout.the-variants.{L6021, L2000, L5500, L5050}
-use Rattle.record.specs.declared.TimeLayout.{TimeLayout}
-use Rattle.record.specs.declared.TimeLayout.the-variants.{T6021, T5500, T5050}
-use Rattle.record.specs.declared.Record.{Record}
-use Rattle.record.specs.declared.Record.the-variants.{TimeOnly}
-use Rattle.layouts.specs.declared.Layout.{Layout}
-use Rattle.layouts.specs.declared.Layout.the-variants as layouts
-use Rattle.layouts.specs.Layouts.{ownLayout}
-use Rattle.board.specs.RoundTrip6038.{All256ReadOrRefused, Switch1IsReadAsNothing, Switch1IsWrittenOff, ReadingThenWritingClearsSwitch1, ASettingWrittenReadsBack, OffOnIsNeverWritten, ASettingNotOfferedIs16}
-use Rattle.trailer.specs.declared.Order.{Order}
-use Rattle.trailer.specs.declared.Order.the-variants.{AsPrinted, Exchanged}
-use Rattle.telegram.specs.declared.write.Setting.{Setting}
-use Rattle.telegram.specs.declared.write.Choice.the-variants.{Named, NamedIn}
+use Rattle.calendar_rules.specs.declared.time.Time.{Time}
+use Rattle.record_rules.specs.declared.DatedLayout.the-variants.{L6021, L2000, L5500, L5050}
+use Rattle.record_rules.specs.declared.TimeLayout.{TimeLayout}
+use Rattle.record_rules.specs.declared.TimeLayout.the-variants.{T6021, T5500, T5050}
+use Rattle.record_rules.specs.declared.Record.{Record}
+use Rattle.record_rules.specs.declared.Record.the-variants.{TimeOnly}
+use Rattle.layouts_rules.specs.declared.Layout.{Layout}
+use Rattle.layouts_rules.specs.declared.Layout.the-variants as layouts
+use Rattle.layouts_rules.specs.Layouts.{ownLayout}
+use Rattle.board_rules.specs.RoundTrip6038.{All256ReadOrRefused, Switch1IsReadAsNothing, Switch1IsWrittenOff, ReadingThenWritingClearsSwitch1, ASettingWrittenReadsBack, OffOnIsNeverWritten, ASettingNotOfferedIs16}
+use Rattle.trailer_rules.specs.declared.Order.{Order}
+use Rattle.trailer_rules.specs.declared.Order.the-variants.{AsPrinted, Exchanged}
+use Rattle.telegram_rules.specs.declared.write.Setting.{Setting}
+use Rattle.telegram_rules.specs.declared.write.Choice.the-variants.{Named, NamedIn}
 use Rattle.telegram.specs.declared.several.Several.{Several}
-use Rattle.telegram.specs.Reading.{readOf}
+use Rattle.telegram_rules.specs.Reading.{readOf}
 use Rattle.telegram.specs.SeveralTelegrams.{severalAfter}
-use Rattle.telegram.specs.Writing.{telegramIn}
-use Rattle.leitch.specs.declared.Reply.{Reply}
-use Rattle.leitch.specs.Writing.{replyBytes}
+use Rattle.telegram_rules.specs.Writing.{telegramIn}
+use Rattle.leitch_rules.specs.declared.Reply.{Reply}
+use Rattle.leitch_rules.specs.Writing.{replyBytes}
 use Rattle.line.specs.Readers.{freshIn, freshReader}
 use Rattle.line.specs.ReaderSentences.{EveryOrderIsWellFormed, TheOrderStays}
-use Rattle.line.specs.SentLine.{Sent, bytesSent}
+use Rattle.line_rules.specs.SentLine.{Sent, bytesSent}
 use Rattle.listing_of_lines.specs.Whole.{listingIn, listingOf}
 use Rattle.demands.specs.Programs.{reads, writes}
 use Rattle.demands.specs.ProgramsOfTheLog.{adds}

@@ -13,26 +13,26 @@ use Rattle.lent_buffer.specs.Laying.{within, laid}
 use Rattle.lent_buffer.specs.OneBehindAnother.{Next, nothing, part, oneBehindAnother}
 use Rattle.ascii.specs.Ascii.{ascii}
 use Rattle.ascii.specs.Control.{stx, etx, lfCr}
-use Rattle.calendar.specs.Literals.{date, time}
-use Rattle.calendar.specs.declared.time.Time.{Time}
-use Rattle.record.specs.declared.DatedLayout.the-variants.{L6021}
-use Rattle.record.specs.declared.TimeLayout.{TimeLayout}
-use Rattle.record.specs.declared.Record.{Record}
-use Rattle.record.specs.declared.Record.the-variants.{Dated, TimeOnly}
-use Rattle.record.specs.declared.RecordAnswer.the-variants as answer
-use Rattle.record.specs.Rule.{refusalOf, carriesDate}
-use Rattle.layouts.specs.declared.Layout.the-variants as layouts
-use Rattle.layouts.specs.Layouts.{ownLayout}
-use Rattle.trailer.specs.declared.Order.{Order}
-use Rattle.trailer.specs.declared.Order.the-variants.{AsPrinted}
-use Rattle.telegram.specs.declared.write.Choice.{Choice}
-use Rattle.telegram.specs.declared.write.Choice.the-variants.{Named, Unnamed}
+use Rattle.calendar_rules.specs.Literals.{date, time}
+use Rattle.calendar_rules.specs.declared.time.Time.{Time}
+use Rattle.record_rules.specs.declared.DatedLayout.the-variants.{L6021}
+use Rattle.record_rules.specs.declared.TimeLayout.{TimeLayout}
+use Rattle.record_rules.specs.declared.Record.{Record}
+use Rattle.record_rules.specs.declared.Record.the-variants.{Dated, TimeOnly}
+use Rattle.record_rules.specs.declared.RecordAnswer.the-variants as answer
+use Rattle.record_rules.specs.Rule.{refusalOf, carriesDate}
+use Rattle.layouts_rules.specs.declared.Layout.the-variants as layouts
+use Rattle.layouts_rules.specs.Layouts.{ownLayout}
+use Rattle.trailer_rules.specs.declared.Order.{Order}
+use Rattle.trailer_rules.specs.declared.Order.the-variants.{AsPrinted}
+use Rattle.telegram_rules.specs.declared.write.Choice.{Choice}
+use Rattle.telegram_rules.specs.declared.write.Choice.the-variants.{Named, Unnamed}
 use Rattle.telegram.specs.declared.several.Several.{Several}
 use Rattle.telegram.specs.SeveralTelegrams.{noneYet, withMore, unlessEnded, severalAfter, severalAll}
-use Rattle.telegram.specs.Writing.{telegramIn, telegramOf, as6021, judgedOf, telegramFor}
+use Rattle.telegram_rules.specs.Writing.{telegramIn, telegramOf, as6021, judgedOf, telegramFor}
 use Rattle.line.specs.declared.Reader.{Reader}
-use Rattle.line.specs.declared.Heard.{Heard}
-use Rattle.line.specs.declared.Heard.the-variants.{Event}
+use Rattle.line_rules.specs.declared.Heard.{Heard}
+use Rattle.line_rules.specs.declared.Heard.the-variants.{Event}
 use Rattle.line.specs.Cuts.{Calls, feeding}
 use Rattle.line.specs.Pieces.{usingUp}
 use Rattle.demands.specs.Programs.{writes, feeds}

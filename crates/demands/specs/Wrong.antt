@@ -5,17 +5,17 @@ use Prim.Native.Nat.{ℕ}
 use lib.Dec.{eqb}
 use lib.ListN.{length}
 use Rattle.refusals.specs.Refusals.{Outcome, done, refused}
-use Rattle.record.specs.declared.TimeLayout.the-variants.{T6021}
-use Rattle.record.specs.declared.Record.{Record}
-use Rattle.record.specs.declared.Record.the-variants.{TimeOnly}
-use Rattle.record.specs.declared.RecordAnswer.{RecordAnswer}
-use Rattle.record.specs.declared.RecordAnswer.the-variants as answer
-use Rattle.trailer.specs.declared.Order.{Order}
-use Rattle.telegram.specs.declared.write.Choice.{Choice}
+use Rattle.record_rules.specs.declared.TimeLayout.the-variants.{T6021}
+use Rattle.record_rules.specs.declared.Record.{Record}
+use Rattle.record_rules.specs.declared.Record.the-variants.{TimeOnly}
+use Rattle.record_rules.specs.declared.RecordAnswer.{RecordAnswer}
+use Rattle.record_rules.specs.declared.RecordAnswer.the-variants as answer
+use Rattle.trailer_rules.specs.declared.Order.{Order}
+use Rattle.telegram_rules.specs.declared.write.Choice.{Choice}
 use Rattle.line.specs.declared.Reader.{Reader}
 use Rattle.line.specs.declared.Fed.{Fed}
-use Rattle.line.specs.declared.Heard.{Heard}
-use Rattle.line.specs.declared.Heard.the-variants.{Nothing, Event, Refused}
+use Rattle.line_rules.specs.declared.Heard.{Heard}
+use Rattle.line_rules.specs.declared.Heard.the-variants.{Nothing, Event, Refused}
 use Rattle.line.specs.Readers.{readerWith, feedReader}
 
 -- "a reader that refuses everything": one telegram, and on the line

@@ -2,9 +2,9 @@
 use mathlib.Core.List.{List, []}
 use Prim.Native.Nat.{ℕ}
 use Rattle.refusals.specs.Refusals.{Outcome, done, refused}
-use Rattle.calendar.specs.Literals.{date, time}
-use Rattle.leitch.specs.declared.Reply.{Reply}
-use Rattle.leitch.specs.AsPrinted.{reply}
+use Rattle.calendar_rules.specs.Literals.{date, time}
+use Rattle.leitch_rules.specs.declared.Reply.{Reply}
+use Rattle.leitch_rules.specs.AsPrinted.{reply}
 
 -- "a reader that refuses everything"
 abbrev pub refusingReplyReader : List ℕ → Outcome Reply

@@ -2,10 +2,10 @@
 use mathlib.Core.List.{List}
 use Prim.Native.Nat.{ℕ}
 use Rattle.refusals.specs.Refusals.{Outcome, done, refused}
-use Rattle.log.specs.declared.Place.{Place}
-use Rattle.log.specs.declared.verify.Verified.{Verified}
-use Rattle.log.specs.declared.verify.Verified.the-variants.{AllGood}
-use Rattle.log.specs.Add.{placeAt}
+use Rattle.log_rules.specs.declared.Place.{Place}
+use Rattle.log_rules.specs.declared.verify.Verified.{Verified}
+use Rattle.log_rules.specs.declared.verify.Verified.the-variants.{AllGood}
+use Rattle.log_rules.specs.Add.{placeAt}
 
 -- an add that does nothing and answers a place
 abbrev pub idleAdd : List ℕ → List ℕ → Outcome Place × List ℕ

@@ -4,10 +4,10 @@ use super::tell;
 use listing::LONGEST_LOG_ROW;
 use listing::RowAnswer;
 use listing::log_rows;
-use log::BLOCK_SIZE;
 use listing_of_logs::PAGE;
 use listing_output::Output;
 use listing_output::print_row;
+use log::BLOCK_SIZE;
 use refusals::NOT_WHOLE_BLOCKS;
 
 // What is listed: a row for each telegram of the good blocks, or a row for each block.
@@ -132,7 +132,12 @@ fn lay_tail(rows: Rows, number: u64, out: &mut [u8]) -> RowAnswer {
     match rows {
         Rows::Telegrams => log_rows::block_row(number, NOT_WHOLE_BLOCKS, out),
         Rows::Blocks => {
-            log_rows::tail_row(number, listing_of_logs::offset_of(number), NOT_WHOLE_BLOCKS, out)
+            log_rows::tail_row(
+                number,
+                listing_of_logs::offset_of(number),
+                NOT_WHOLE_BLOCKS,
+                out,
+            )
         }
     }
 }

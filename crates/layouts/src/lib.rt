@@ -2,11 +2,4 @@
 pub mod coding;
 pub mod rows;
 
-use record::DatedLayout;
-use record::TimeLayout;
-
-// Four layouts with a date, three with the time alone.
-pub enum Layout {
-    Dated(DatedLayout),
-    TimeOnly(TimeLayout),
-}
+pub use layouts_rules::Layout;

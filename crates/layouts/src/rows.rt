@@ -1,5 +1,7 @@
 // The seven layouts as data: a row of places each, without STX and ETX, and the layout that a length tells.
 use super::Layout;
+pub use layouts_rules::rows::LayoutAnswer;
+pub use layouts_rules::rows::Span;
 use places::FIRST_CODE;
 use places::FIRST_DECIMAL;
 use record::DatedLayout;
@@ -7,8 +9,8 @@ use record::Record;
 use record::TimeLayout;
 use refusals::LENGTH;
 ghost use mathlib.Core.Path.{_≡_};
-ghost use Rattle.layouts.specs.Layouts.{allRows, spanOf, ownLayout, layoutOf, byTrailer};
-ghost use Rattle.layouts.specs.Answers.{layoutAnswer};
+ghost use Rattle.layouts_rules.specs.Layouts.{allRows, spanOf, ownLayout, layoutOf, byTrailer};
+ghost use Rattle.layouts_rules.specs.Answers.{layoutAnswer};
 
 const LF: u8 = b'\n';
 
@@ -49,17 +51,6 @@ const Y2: u8 = FIRST_DECIMAL + 13;
 const Y1: u8 = FIRST_DECIMAL + 14;
 
 const Y0: u8 = FIRST_DECIMAL + 15;
-
-// Where a row stands among the rows.
-pub struct Span {
-    pub start: usize,
-    pub end: usize,
-}
-
-pub enum LayoutAnswer {
-    Found(Layout),
-    Refused(u8),
-}
 
 // The table of document 01, a layout a line, in its order.
 #[rattlefmt::skip]

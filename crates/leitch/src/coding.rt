@@ -10,9 +10,9 @@ use record::Record;
 use record::TimeLayout;
 ghost use mathlib.Core.Path.{_≡_};
 ghost use Prim.Native.Nat.{_+_, _*_, _%_};
-ghost use Rattle.places.specs.Places.{codeValue, codeCharacter};
-ghost use Rattle.layouts.specs.Coding.{codeAt, timeIn, fullYear};
-ghost use Rattle.leitch.specs.Coding.{dateIn, replyIn, digitsOut};
+ghost use Rattle.places_rules.specs.Places.{codeValue, codeCharacter};
+ghost use Rattle.layouts_rules.specs.Coding.{codeAt, timeIn, fullYear};
+ghost use Rattle.leitch_rules.specs.Coding.{dateIn, replyIn, digitsOut};
 
 // Two decimal digits as a number. What stands in a slot has four bits.
 fn pair(tens: u8, ones: u8) -> u8

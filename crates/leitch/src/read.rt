@@ -1,20 +1,15 @@
 // Reading a reply. Each refusal is a test of its own over all of it, and the lowest that holds is given.
-use super::Reply;
 use super::coding::reply_in;
 use super::row::PLACES;
 use super::row::row;
 use super::rule::day_refusal;
 use super::rule::fields_refusal;
+pub use leitch_rules::read::ReplyAnswer;
 use refusals::LENGTH;
 use refusals::NONE;
 ghost use mathlib.Core.Path.{_≡_};
-ghost use Rattle.leitch.specs.Reading.{replyOf};
-ghost use Rattle.leitch.specs.Answers.{replyAnswer};
-
-pub enum ReplyAnswer {
-    Good(Reply),
-    Refused(u8),
-}
+ghost use Rattle.leitch_rules.specs.Reading.{replyOf};
+ghost use Rattle.leitch_rules.specs.Answers.{replyAnswer};
 
 // Reads any bytes as a reply.
 pub fn read(bytes: &[u8]) -> ReplyAnswer

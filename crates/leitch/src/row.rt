@@ -2,7 +2,7 @@
 use places::FIRST_CODE;
 use places::FIRST_DECIMAL;
 ghost use mathlib.Core.Path.{_≡_};
-ghost use Rattle.leitch.specs.Row.{rowNumbers};
+ghost use Rattle.leitch_rules.specs.Row.{rowNumbers};
 
 pub(crate) const PLACES: usize = 31;
 

@@ -12,9 +12,9 @@ use refusals::WEEKDAY_DISAGREES;
 ghost use mathlib.Core.Path.{_≡_};
 ghost use mathlib.Core.Bool.{not};
 ghost use Rattle.refusals.specs.Refusals.{_when_, _else_};
-ghost use Rattle.calendar.specs.Ranges.{inside};
-ghost use Rattle.calendar.specs.Calendar.{dateRefusal};
-ghost use Rattle.leitch.specs.Rule.{statusListed, weekdayAgrees, fieldsRefusal, dayRefusal};
+ghost use Rattle.calendar_rules.specs.Ranges.{inside};
+ghost use Rattle.calendar_rules.specs.Calendar.{dateRefusal};
+ghost use Rattle.leitch_rules.specs.Rule.{statusListed, weekdayAgrees, fieldsRefusal, dayRefusal};
 
 fn inside(low: u8, x: u8, high: u8) -> bool
     ensures { λ r. ⌜ r ≡ inside low x high ⌝ }

@@ -5,18 +5,14 @@ use super::row::PLACES;
 use super::row::row;
 use super::rule::day_refusal;
 use super::rule::fields_refusal;
+pub use leitch_rules::write::WriteAnswer;
 use refusals::BUFFER_SHORT;
 use refusals::NONE;
 ghost use mathlib.Core.Path.{_≡_};
 ghost use lib.ListN.{length};
 ghost use Rattle.lent_buffer.specs.Laying.{laid};
-ghost use Rattle.leitch.specs.Writing.{written};
-ghost use Rattle.leitch.specs.Answers.{writeAnswer};
-
-pub enum WriteAnswer {
-    Written(usize),
-    Refused(u8),
-}
+ghost use Rattle.leitch_rules.specs.Writing.{written};
+ghost use Rattle.leitch_rules.specs.Answers.{writeAnswer};
 
 // Writes a reply at the front of the buffer. A refused write leaves every byte of it as it was.
 pub fn write(reply: Reply, out: &mut [u8]) -> WriteAnswer

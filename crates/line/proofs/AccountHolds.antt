@@ -5,15 +5,15 @@ use Prim.Native.Nat.{_+_, _%_, _^_}
 use native.Mathlib.Omega.{arith}
 use lib.ListN.{length}
 use Rattle.line.specs.Readers.{freshIn, feedReader, endReader}
-use Rattle.line.specs.Line.{startOf, freshLine, toldByEnd, heardFor}
-use Rattle.line.specs.Events.{lineAfter, heardThen}
+use Rattle.line_rules.specs.Line.{startOf, freshLine, toldByEnd, heardFor}
+use Rattle.line_rules.specs.Events.{lineAfter, heardThen}
 use Rattle.line.specs.Cuts.{feeding, bytesServed}
-use Rattle.line.specs.Account.{lengthsOf, straysOf, sizesOf}
+use Rattle.line_rules.specs.Account.{lengthsOf, straysOf, sizesOf}
 use Rattle.line.specs.ReaderSentences.{TheAccountHolds, TheAccountHoldsAfterTheEnd}
 use Rattle.line.proofs.StaysGood.{end-good}
-use Rattle.line.proofs.EventLaws.{good-fresh, good-after}
+use Rattle.line_rules.proofs.EventLaws.{good-fresh, good-after}
 use Rattle.line.proofs.CutLaws.{feeding-splits, cut-anywhere}
-use Rattle.line.proofs.AccountLaws.{end-size, heard-sizes, line, stray-is, sum}
+use Rattle.line_rules.proofs.AccountLaws.{end-size, heard-sizes, line, stray-is, sum}
 
 -- and so of the reader that any caller's loop leaves
 pub the-account-holds : TheAccountHolds

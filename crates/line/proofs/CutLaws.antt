@@ -8,14 +8,14 @@ use native.Mathlib.Omega.{arith}
 use lib.ListN.{length, drop}
 use Rattle.line.specs.declared.Reader.{Reader}
 use Rattle.line.specs.Readers.{readerOf, lineOf, fedFor, feedReader}
-use Rattle.line.specs.Line.{Line, feedOf}
-use Rattle.line.specs.Events.{eventsOf, lineAfter}
+use Rattle.line_rules.specs.Line.{Line, feedOf}
+use Rattle.line_rules.specs.Events.{eventsOf, lineAfter}
 use Rattle.line.specs.Cuts.{Calls, calledFor, feeding, callsThen, callsOf, Served, bytesServed, heardOf, readerBehind, AllUsedUp, serve}
 use Rattle.line.specs.ReaderSentences.{TakesSome, UsesUpAnyCut, TellsTheLine, FeedingTellsTheLine, SameByAnyCut, CutIndependence}
 use Rattle.line.proofs.ReaderLaws.{reader-back}
-use Rattle.line.proofs.GoodLines.{Good, good-feed}
+use Rattle.line_rules.proofs.GoodLines.{Good, good-feed}
 use Rattle.line.proofs.StaysGood.{good-line, feed-good}
-use Rattle.line.proofs.EventLaws.{after-join, events-join, feed-parts, good-after, shorter}
+use Rattle.line_rules.proofs.EventLaws.{after-join, events-join, feed-parts, good-after, shorter}
 
 -- calls on a piece split what it tells into what was heard and what the rest tells
 pub record Splits (line : Line) (piece : List ℕ) (called : Calls) : Type 0 where

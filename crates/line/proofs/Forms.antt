@@ -10,9 +10,9 @@ use lib.ListN.{length, take, drop, getD, replicate, drop-of-length-le, length-ta
 use lib.Seq.{drop-cons, drop-drop, getD-take}
 use borrow.Author.Tests.{eqb-true}
 use Rattle.refusals.proofs.Laws.{both}
-use Rattle.trailer.specs.declared.Order.{Order}
+use Rattle.trailer_rules.specs.declared.Order.{Order}
 use Rattle.line.specs.Readers.{readerWith, readerOf, allZero}
-use Rattle.line.specs.Line.{places, lineWith, startOf, isPlain, allPlain, isStarted}
+use Rattle.line_rules.specs.Line.{places, lineWith, startOf, isPlain, allPlain, isStarted}
 
 -- zeros
 pub zero-step : (held : List ℕ) (at : ℕ) → at < length held → allZero (drop at held) ≡ (eqb (getD held at 0) 0 && allZero (drop (at + 1) held))

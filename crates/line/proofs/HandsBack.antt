@@ -6,21 +6,21 @@ use Prim.Native.Nat.{ℕ, _+_, _%_, _^_}
 use native.Mathlib.Nat.{zero-add}
 use native.Mathlib.Omega.{arith}
 use lib.ListN.{length}
-use Rattle.trailer.specs.declared.Order.{Order}
+use Rattle.trailer_rules.specs.declared.Order.{Order}
 use Rattle.line.specs.declared.Reader.{Reader}
-use Rattle.line.specs.declared.Heard.the-variants.{Nothing}
+use Rattle.line_rules.specs.declared.Heard.the-variants.{Nothing}
 use Rattle.line.specs.Readers.{readerOf, freshIn, endReader}
-use Rattle.line.specs.Line.{freshLine}
-use Rattle.line.specs.Events.{eventsOf, lineAfter}
+use Rattle.line_rules.specs.Line.{freshLine}
+use Rattle.line_rules.specs.Events.{eventsOf, lineAfter}
 use Rattle.line.specs.Cuts.{Calls, Served, bytesServed, heardOf, readerBehind, AllUsedUp}
-use Rattle.line.specs.SentLine.{Sent, bytesSent, allGood, eventsSent, straySent}
-use Rattle.line.proofs.FeedLaws.{outside}
+use Rattle.line_rules.specs.SentLine.{Sent, bytesSent, allGood, eventsSent, straySent}
+use Rattle.line_rules.proofs.FeedLaws.{outside}
 use Rattle.line.proofs.ReaderLaws.{end-outside}
 use Rattle.line.proofs.Wraps.{reader-well}
-use Rattle.line.proofs.EventLaws.{good-fresh}
+use Rattle.line_rules.proofs.EventLaws.{good-fresh}
 use Rattle.line.proofs.CutLaws.{Splitting, cut-anywhere}
-use Rattle.line.proofs.SentLaws.{Gives}
-use Rattle.line.proofs.SentGives.{sent-gives}
+use Rattle.line_rules.proofs.SentLaws.{Gives}
+use Rattle.line_rules.proofs.SentGives.{sent-gives}
 
 -- cut anywhere, fed to a fresh reader by any caller's loop
 module _ (call : Reader → List ℕ → Calls) (splitting : Splitting call) (order : Order) (sents : List Sent) (behind : List ℕ) (good : allGood sents behind ≡ true)

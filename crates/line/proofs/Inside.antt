@@ -10,21 +10,21 @@ use lib.ListN.{length, take, drop, getD, replicate, length-append, drop-of-lengt
 use lib.Seq.{length-take-le, drop-cons, paste, take-paste}
 use borrow.Author.Tests.{ne-eqb, le-leb, ltb-true, ltb-false}
 use Rattle.refusals.specs.Refusals.{Outcome, refused}
-use Rattle.record.specs.declared.Record.{Record}
-use Rattle.record.specs.declared.RecordAnswer.{RecordAnswer}
-use Rattle.record.specs.declared.RecordAnswer.the-variants as answer
-use Rattle.record.specs.Answers.{recordAnswer}
+use Rattle.record_rules.specs.declared.Record.{Record}
+use Rattle.record_rules.specs.declared.RecordAnswer.{RecordAnswer}
+use Rattle.record_rules.specs.declared.RecordAnswer.the-variants as answer
+use Rattle.record_rules.specs.Answers.{recordAnswer}
 use Rattle.ascii.specs.Control.{stx, etx}
-use Rattle.trailer.specs.declared.Order.{Order}
+use Rattle.trailer_rules.specs.declared.Order.{Order}
 use Rattle.line.specs.declared.Reader.{Reader}
-use Rattle.line.specs.declared.Heard.the-variants.{Nothing, Event}
+use Rattle.line_rules.specs.declared.Heard.the-variants.{Nothing, Event}
 use Rattle.line.specs.Readers.{readerWith, readerOf, lineOf, wellFormed, fedFor, feedReader, feedReaderAt}
-use Rattle.line.specs.Line.{places, judgement, Line, lineWith, isPlain, event, Feeding, feedOf, startOf, answerFor}
-use Rattle.line.specs.Runs.{roomyRun}
+use Rattle.line_rules.specs.Line.{places, judgement, Line, lineWith, isPlain, event, Feeding, feedOf, startOf, answerFor}
+use Rattle.line_rules.specs.Runs.{roomyRun}
 use Rattle.line.proofs.Forms.{taken-length, start-stays, padding}
-use Rattle.line.proofs.RunLaws.{Within, run-within, run-ends}
+use Rattle.line_rules.proofs.RunLaws.{Within, run-within, run-ends}
 use Rattle.line.proofs.ReaderLaws.{Well, well}
-use Rattle.line.proofs.FeedLaws.{later, feed-run}
+use Rattle.line_rules.proofs.FeedLaws.{later, feed-run}
 
 -- a feeding that ended with the byte it was given
 abbrev pub stopped : Line → List ℕ → Outcome Record → ℕ → Feeding

@@ -5,16 +5,16 @@ use Prim.Native.Nat.{suc, _+_}
 use native.Mathlib.Omega.{arith}
 use lib.ListN.{length}
 use borrow.Author.Tests.{lt-leb}
-use Rattle.record.specs.declared.RecordAnswer.the-variants as answer
+use Rattle.record_rules.specs.declared.RecordAnswer.the-variants as answer
 use Rattle.ascii.specs.Control.{stx}
-use Rattle.line.specs.declared.Heard.the-variants.{Event}
+use Rattle.line_rules.specs.declared.Heard.the-variants.{Event}
 use Rattle.line.specs.Readers.{wellFormedAt}
-use Rattle.line.specs.Line.{places, freshLine, startOf, toldByEnd, heardFor}
-use Rattle.line.specs.Events.{lineAfter}
+use Rattle.line_rules.specs.Line.{places, freshLine, startOf, toldByEnd, heardFor}
+use Rattle.line_rules.specs.Events.{lineAfter}
 use Rattle.line.specs.LongerReaders.{TheEndCutsOffUpTo38, TheRuleIsTheOneAt38}
 use Rattle.line.proofs.StaysGood.{end-good}
-use Rattle.line.proofs.EventLaws.{good-fresh, good-after}
-use Rattle.line.proofs.LongerTelegramsHold.{begins-at-0, gives, held}
+use Rattle.line_rules.proofs.EventLaws.{good-fresh, good-after}
+use Rattle.line_rules.proofs.LongerTelegramsHold.{begins-at-0, gives, held}
 
 pub the-end-cuts-off-up-to-38 : TheEndCutsOffUpTo38
 the-end-cuts-off-up-to-38 order body plain room =

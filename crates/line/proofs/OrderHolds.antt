@@ -4,17 +4,17 @@ use mathlib.Core.Bool.{Bool, true, false, cond}
 use mathlib.Core.List.{List}
 use Prim.Native.Nat.{ℕ, zero, suc}
 use lib.ListN.{drop}
-use Rattle.trailer.specs.declared.Order.{Order}
-use Rattle.line.specs.declared.Heard.{Heard}
-use Rattle.line.specs.declared.Heard.the-variants.{Nothing, Event, Refused}
+use Rattle.trailer_rules.specs.declared.Order.{Order}
+use Rattle.line_rules.specs.declared.Heard.{Heard}
+use Rattle.line_rules.specs.declared.Heard.the-variants.{Nothing, Event, Refused}
 use Rattle.line.specs.declared.Fed.{Fed}
 use Rattle.line.specs.declared.Ended.{Ended}
 use Rattle.line.specs.declared.Reader.{Reader}
 use Rattle.line.specs.Readers.{readerOf, lineOf, fedFor, wellFormed, wellFormedAt, feedReader, feedReaderAt, endReader, endReaderAt}
-use Rattle.line.specs.Line.{feedOf, ended, toldByEnd, heardFor}
+use Rattle.line_rules.specs.Line.{feedOf, ended, toldByEnd, heardFor}
 use Rattle.line.specs.Pieces.{Passing, passOn, passing}
 use Rattle.line.specs.ReaderSentences.{AFreshOneIsAsPrintedIfNotNamed, EveryOrderIsWellFormed, TheOrderStays}
-use Rattle.line.proofs.OrderStays.{line-stays}
+use Rattle.line_rules.proofs.OrderStays.{line-stays}
 
 pub a-fresh-one-is-as-printed : AFreshOneIsAsPrintedIfNotNamed
 a-fresh-one-is-as-printed = refl

@@ -8,17 +8,17 @@ use native.Mathlib.Numerals.{add-one}
 use native.Mathlib.Omega.{arith}
 use lib.ListN.{length, take, drop, set, replicate, take-append-drop, length-take, length-drop}
 use lib.Seq.{take-all, take-suc-set, drop-set-lt, drop-drop}
-use Rattle.record.specs.declared.RecordAnswer.{RecordAnswer}
+use Rattle.record_rules.specs.declared.RecordAnswer.{RecordAnswer}
 use Rattle.line.specs.declared.Reader.{Reader}
 use Rattle.line.specs.declared.Fed.{Fed}
-use Rattle.line.specs.declared.Heard.{Heard}
-use Rattle.line.specs.declared.Heard.the-variants.{Nothing, Event, Refused}
+use Rattle.line_rules.specs.declared.Heard.{Heard}
+use Rattle.line_rules.specs.declared.Heard.the-variants.{Nothing, Event, Refused}
 use Rattle.line.specs.declared.pieces.Slot.{Slot}
 use Rattle.line.specs.declared.pieces.Passed.{Passed}
 use Rattle.line.specs.Readers.{wellFormed, fedFor, lineOf, feedReader, feedReaderAt}
-use Rattle.line.specs.Line.{feedOf}
+use Rattle.line_rules.specs.Line.{feedOf}
 use Rattle.line.specs.Pieces.{room, Passing, passOn, passing, slotOf, passedFor}
-use Rattle.line.proofs.EventLaws.{taken-fits}
+use Rattle.line_rules.proofs.EventLaws.{taken-fits}
 
 -- a call takes no more than there is, whatever the reader
 taken-by : (reader : Reader) (piece : List ℕ) (good : Bool)

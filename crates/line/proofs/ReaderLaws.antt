@@ -10,11 +10,11 @@ use lib.ListN.{length, take, drop, replicate, take-append-drop}
 use borrow.Author.Tests.{eqb-true, leb-true}
 use Rattle.refusals.specs.Refusals.{refused}
 use Rattle.refusals.proofs.Laws.{both}
-use Rattle.record.specs.declared.RecordAnswer.the-variants as answer
+use Rattle.record_rules.specs.declared.RecordAnswer.the-variants as answer
 use Rattle.line.specs.declared.Reader.{Reader}
-use Rattle.line.specs.declared.Heard.the-variants.{Nothing, Event, Refused}
+use Rattle.line_rules.specs.declared.Heard.the-variants.{Nothing, Event, Refused}
 use Rattle.line.specs.Readers.{readerWith, readerOf, lineOf, allZero, wellFormed, wellFormedAt, feedReader, feedReaderAt, endReader, endReaderAt}
-use Rattle.line.specs.Line.{places, lineWith, event, toldByEnd, startOf, isStarted}
+use Rattle.line_rules.specs.Line.{places, lineWith, event, toldByEnd, startOf, isStarted}
 use Rattle.line.proofs.Forms.{taken-length, padding}
 
 pub record Well (reader : Reader) : Type 0 where

@@ -1,16 +1,16 @@
 -- Document 01's sentences on the reader hold, but for the account (AccountHolds) and the cuts (CutLaws, UsesUp). Assumes nothing.
 use mathlib.Core.Path.{refl, ap, sym, _∙_}
 use native.Mathlib.Omega.{arith}
-use Rattle.line.specs.declared.Heard.the-variants.{Nothing}
+use Rattle.line_rules.specs.declared.Heard.the-variants.{Nothing}
 use Rattle.line.specs.Readers.{readerOf, lineOf, wellFormed, feedReaderAt, endReaderAt}
-use Rattle.line.specs.Line.{freshLine}
+use Rattle.line_rules.specs.Line.{freshLine}
 use Rattle.line.specs.Pieces.{room, passing}
 use Rattle.line.specs.ReaderSentences.{AFreshOneHoldsNone, AGoodStateStaysGood, ACallStopsAfterTheFirstEvent, AnEmptyPieceGivesNothing, TheEndLeavesItOutside}
 use Rattle.line.proofs.ReaderLaws.{reader-back}
 use Rattle.line.proofs.StaysGood.{good-line, reader-of-good, feed-stays-good, end-stays-good}
-use Rattle.line.proofs.EventLaws.{good-fresh}
+use Rattle.line_rules.proofs.EventLaws.{good-fresh}
 use Rattle.line.proofs.UsesUp.{taken-line, passing-splits}
-use Rattle.line.proofs.SentencesHold.{feed-stops}
+use Rattle.line_rules.proofs.SentencesHold.{feed-stops}
 
 pub a-fresh-one-holds-none : AFreshOneHoldsNone
 a-fresh-one-holds-none order = (reader-of-good (freshLine order) (good-fresh order), refl, refl, refl, refl, refl)

@@ -7,7 +7,7 @@ use lib.ListN.{length}
 use Rattle.line.specs.Readers.{fedFor}
 use Rattle.line.specs.SkippingReaders.{behind, StrayBytesMayBeSkipped}
 use Rattle.line.proofs.Wraps.{feed-reader}
-use Rattle.line.proofs.SkippingHolds.{past}
+use Rattle.line_rules.proofs.SkippingHolds.{past}
 
 pub stray-bytes-may-be-skipped : StrayBytesMayBeSkipped
 stray-bytes-may-be-skipped fed stray order run rest none =

@@ -7,11 +7,11 @@ use native.Mathlib.Omega.{arith}
 use lib.ListN.{length}
 use Rattle.line.specs.declared.Reader.{Reader}
 use Rattle.line.specs.Readers.{readerOf, lineOf, wellFormed, fedFor, feedReader, feedReaderAt, endReader, endReaderAt}
-use Rattle.line.specs.Line.{places, Line, feedOf, startOf, ended, toldByEnd, heardFor}
+use Rattle.line_rules.specs.Line.{places, Line, feedOf, startOf, ended, toldByEnd, heardFor}
 use Rattle.line.proofs.Forms.{taken-length}
 use Rattle.line.proofs.ReaderLaws.{well}
 use Rattle.line.proofs.Inside.{reader-wraps}
-use Rattle.line.proofs.GoodLines.{Good, good-feed}
+use Rattle.line_rules.proofs.GoodLines.{Good, good-feed}
 use Rattle.line.proofs.Wraps.{held-back, reader-well, feed-reader}
 
 pub reader-of-good : (line : Line) → Good line → wellFormed (readerOf line) ≡ true

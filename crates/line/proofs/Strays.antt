@@ -8,15 +8,15 @@ use native.Mathlib.Omega.{arith}
 use lib.ListN.{length, drop, drop-of-length-le}
 use lib.Seq.{drop-cons}
 use Rattle.ascii.specs.Control.{stx}
-use Rattle.trailer.specs.declared.Order.{Order}
+use Rattle.trailer_rules.specs.declared.Order.{Order}
 use Rattle.line.specs.declared.Reader.{Reader}
 use Rattle.line.specs.declared.Fed.{Fed}
-use Rattle.line.specs.declared.Heard.the-variants.{Nothing}
+use Rattle.line_rules.specs.declared.Heard.the-variants.{Nothing}
 use Rattle.line.specs.Readers.{readerOf, fedFor, feedReader}
-use Rattle.line.specs.Line.{lineWith, feedOf}
-use Rattle.line.specs.Runs.{strayRun}
-use Rattle.line.proofs.FeedLaws.{later, outside, feed-stray, feed-start}
-use Rattle.line.proofs.RunLaws.{stray-ends}
+use Rattle.line_rules.specs.Line.{lineWith, feedOf}
+use Rattle.line_rules.specs.Runs.{strayRun}
+use Rattle.line_rules.proofs.FeedLaws.{later, outside, feed-stray, feed-start}
+use Rattle.line_rules.proofs.RunLaws.{stray-ends}
 use Rattle.line.proofs.Inside.{reader-wraps}
 use Rattle.line.proofs.Wraps.{alike, feed-reader}
 

@@ -6,17 +6,17 @@ use native.Mathlib.Omega.{arith}
 use lib.ListN.{length, take, drop, replicate, length-map, length-drop}
 use lib.Seq.{drop-drop, take-add, take-append-seam}
 use Rattle.line.specs.declared.Fed.{Fed}
-use Rattle.line.specs.declared.Heard.{Heard}
-use Rattle.line.specs.declared.Heard.the-variants.{Nothing, Event, Refused}
+use Rattle.line_rules.specs.declared.Heard.{Heard}
+use Rattle.line_rules.specs.declared.Heard.the-variants.{Nothing, Event, Refused}
 use Rattle.line.specs.Readers.{readerOf, feedReader}
-use Rattle.line.specs.Line.{Line, Told, nothing, event, Feeding, stopOr, feedOf, toldBy, step, startOf, heardFor, answerFor}
-use Rattle.line.specs.Events.{lineAfter}
+use Rattle.line_rules.specs.Line.{Line, Told, nothing, event, Feeding, stopOr, feedOf, toldBy, step, startOf, heardFor, answerFor}
+use Rattle.line_rules.specs.Events.{lineAfter}
 use Rattle.line.specs.Cuts.{Calls, calledFor, feeding}
 use Rattle.line.specs.Pieces.{room, Passing, passOn, passing, slotOf, passedFor, handedOn, usingUp}
 use Rattle.line.specs.ReaderSentences.{UsingUpTellsTheLine, UsingUpIsSuchAFeeding}
-use Rattle.line.proofs.GoodLines.{Good, good-feed}
+use Rattle.line_rules.proofs.GoodLines.{Good, good-feed}
 use Rattle.line.proofs.StaysGood.{feed-good}
-use Rattle.line.proofs.EventLaws.{some-by, after-join}
+use Rattle.line_rules.proofs.EventLaws.{some-by, after-join}
 use Rattle.line.proofs.CutLaws.{Splits, Splitting, split-on, feed-splits, feeding-splits, takes-some as any-takes-some, uses-up-any-cut, tells-the-line, same-by-any-cut}
 
 -- of any piece: the reader is that of the bytes taken, and of a piece that has a byte at least one is taken

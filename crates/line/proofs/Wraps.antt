@@ -7,12 +7,12 @@ use native.Mathlib.Omega.{arith}
 use lib.ListN.{length, take, drop, replicate}
 use lib.Seq.{take-append-seam, drop-append-seam}
 use borrow.Author.Tests.{eq-eqb, le-leb}
-use Rattle.trailer.specs.declared.Order.{Order}
-use Rattle.line.specs.declared.Heard.the-variants.{Nothing, Event}
+use Rattle.trailer_rules.specs.declared.Order.{Order}
+use Rattle.line_rules.specs.declared.Heard.the-variants.{Nothing, Event}
 use Rattle.line.specs.Readers.{readerOf, lineOf, allZero, wellFormed, wellFormedAt, fedFor, feedReader, feedReaderAt}
-use Rattle.line.specs.Line.{places, lineWith, answerFor, Line, Told, nothing, event, Feeding, stopOr, feedOf, heldAfter, toldBy, strayBy, startOf, isStarted}
+use Rattle.line_rules.specs.Line.{places, lineWith, answerFor, Line, Told, nothing, event, Feeding, stopOr, feedOf, heldAfter, toldBy, strayBy, startOf, isStarted}
 use Rattle.line.proofs.Inside.{reader-wraps}
-use Rattle.line.proofs.GoodLines.{held-fits}
+use Rattle.line_rules.proofs.GoodLines.{held-fits}
 
 -- feeding says the same of two lines whose counts wrap alike
 abbrev pub Alike : Order → List ℕ → ℕ → ℕ → ℕ → ℕ → List ℕ → Type 0

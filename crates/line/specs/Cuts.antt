@@ -6,9 +6,9 @@ use Prim.{Unit}
 use lib.ListN.{length, drop}
 use Rattle.line.specs.declared.Reader.{Reader}
 use Rattle.line.specs.declared.Fed.{Fed}
-use Rattle.line.specs.declared.Heard.{Heard}
+use Rattle.line_rules.specs.declared.Heard.{Heard}
 use Rattle.line.specs.Readers.{feedReader}
-use Rattle.line.specs.Events.{heardThen}
+use Rattle.line_rules.specs.Events.{heardThen}
 
 -- what calls on one piece leave: "the caller passes on the rest of the piece that it hasn't taken"
 pub record Calls : Type 0 where

@@ -1,14 +1,6 @@
 pub mod Readers
-pub mod Line
-pub mod Runs
-pub mod Events
 pub mod Cuts
 pub mod Pieces
-pub mod Account
-pub mod SentLine
 pub mod ReaderSentences
-pub mod Sentences
 pub mod SkippingReaders
-pub mod Skipping
 pub mod LongerReaders
-pub mod LongerTelegrams

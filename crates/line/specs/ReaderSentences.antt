@@ -4,17 +4,17 @@ use mathlib.Core.List.{List, [], map}
 use mathlib.Core.Path.{_≡_}
 use Prim.Native.Nat.{ℕ, _+_, _-_, _%_, _^_, _<_}
 use lib.ListN.{length, take}
-use Rattle.trailer.specs.declared.Order.{Order}
-use Rattle.trailer.specs.declared.Order.the-variants.{AsPrinted}
+use Rattle.trailer_rules.specs.declared.Order.{Order}
+use Rattle.trailer_rules.specs.declared.Order.the-variants.{AsPrinted}
 use Rattle.line.specs.declared.Reader.{Reader}
 use Rattle.line.specs.declared.Fed.{Fed}
-use Rattle.line.specs.declared.Heard.the-variants.{Nothing}
+use Rattle.line_rules.specs.declared.Heard.the-variants.{Nothing}
 use Rattle.line.specs.Readers.{readerWith, readerOf, lineOf, freshIn, freshReader, wellFormed, AsDeclared, feedReader, endReader}
-use Rattle.line.specs.Line.{Line, freshLine}
-use Rattle.line.specs.Events.{eventsOf, lineAfter, heardThen}
+use Rattle.line_rules.specs.Line.{Line, freshLine}
+use Rattle.line_rules.specs.Events.{eventsOf, lineAfter, heardThen}
 use Rattle.line.specs.Cuts.{Calls, feeding, Served, bytesServed, heardOf, readerBehind, AllUsedUp, serve, heardFrom, readerAfter, UsedUp}
 use Rattle.line.specs.Pieces.{room, passing, usingUp}
-use Rattle.line.specs.Account.{sizesOf, lengthsOf, straysOf}
+use Rattle.line_rules.specs.Account.{sizesOf, lengthsOf, straysOf}
 
 -- "a fresh one holds none and all its counts are 0"
 abbrev pub AFreshOneHoldsNone : Type 0

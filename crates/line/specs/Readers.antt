@@ -5,13 +5,13 @@ use mathlib.Core.Path.{_≡_}
 use Prim.Native.Nat.{ℕ, _-_, _%_, _^_, _<_}
 use lib.Dec.{leb, eqb}
 use lib.ListN.{length, take, drop, replicate}
-use Rattle.trailer.specs.declared.Order.{Order}
-use Rattle.trailer.specs.declared.Order.the-variants.{AsPrinted}
+use Rattle.trailer_rules.specs.declared.Order.{Order}
+use Rattle.trailer_rules.specs.declared.Order.the-variants.{AsPrinted}
 use Rattle.line.specs.declared.Reader.{Reader}
-use Rattle.line.specs.declared.Heard.the-variants.{Refused}
+use Rattle.line_rules.specs.declared.Heard.the-variants.{Refused}
 use Rattle.line.specs.declared.Fed.{Fed}
 use Rattle.line.specs.declared.Ended.{Ended}
-use Rattle.line.specs.Line.{Feeding, Line, ended, feedAt, heardFor, isStarted, lineWith, places, startOf, toldByEnd}
+use Rattle.line_rules.specs.Line.{Feeding, Line, ended, feedAt, heardFor, isStarted, lineWith, places, startOf, toldByEnd}
 
 abbrev pub readerWith : List ℕ → ℕ → ℕ → ℕ → ℕ → Order → Reader
 readerWith held len fed stray start order =

@@ -4,11 +4,11 @@ use mathlib.Core.List.{List, [], _++_}
 use mathlib.Core.Path.{_≡_}
 use Prim.Native.Nat.{ℕ, _+_}
 use lib.ListN.{length}
-use Rattle.trailer.specs.declared.Order.{Order}
+use Rattle.trailer_rules.specs.declared.Order.{Order}
 use Rattle.line.specs.declared.Fed.{Fed}
 use Rattle.line.specs.Readers.{readerOf, feedReader}
-use Rattle.line.specs.Line.{lineWith}
-use Rattle.line.specs.Runs.{hasStx}
+use Rattle.line_rules.specs.Line.{lineWith}
+use Rattle.line_rules.specs.Runs.{hasStx}
 
 -- the same call, so many bytes later
 abbrev pub behind : ℕ → Fed → Fed

@@ -6,8 +6,8 @@ use trailer::Order;
 ghost use mathlib.Core.Path.{_≡_};
 ghost use Prim.Native.Nat.{min};
 ghost use lib.ListN.{take};
-ghost use Rattle.record.specs.Answers.{recordAnswer};
-ghost use Rattle.line.specs.Line.{places, judgement};
+ghost use Rattle.record_rules.specs.Answers.{recordAnswer};
+ghost use Rattle.line_rules.specs.Line.{places, judgement};
 
 fn capped(len: usize) -> usize
     ensures { λ r. ⌜ r ≡ min len places ⌝ }

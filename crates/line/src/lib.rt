@@ -4,6 +4,7 @@ pub mod pieces;
 mod runs;
 mod skip;
 
+pub use line_rules::Heard;
 use record::RecordAnswer;
 use refusals::ENDED_INSIDE;
 use refusals::STATE_ILL_FORMED;
@@ -15,10 +16,10 @@ use telegram::ETX;
 use telegram::STX;
 use trailer::Order;
 ghost use mathlib.Core.Path.{_≡_};
-ghost use Rattle.line.specs.declared.Heard.the-variants.{Refused};
+ghost use Rattle.line_rules.specs.declared.Heard.the-variants.{Refused};
 ghost use Rattle.line.specs.Readers.{readerWith, freshIn, freshReader, wellFormed, readerOf, feedReader, endReader, allZero};
-ghost use Rattle.line.specs.Line.{lineWith, isStarted};
-ghost use Rattle.line.specs.Runs.{strayRun};
+ghost use Rattle.line_rules.specs.Line.{lineWith, isStarted};
+ghost use Rattle.line_rules.specs.Runs.{strayRun};
 ghost use Rattle.ascii.specs.Control.{stx};
 ghost use mathlib.Core.Bool.{true};
 ghost use mathlib.Core.List.{[], _∷_};
@@ -40,14 +41,6 @@ pub struct Reader {
     pub start: u32,
     // How the trailers on this line stand.
     pub order: Order,
-}
-
-pub enum Heard {
-    Nothing,
-    // A telegram judged, or bytes refused: the outcome, the position of the first byte, the number of bytes.
-    Event(RecordAnswer, u32, u32),
-    // The reader's state is not well formed: no event, and no byte taken.
-    Refused(u8),
 }
 
 pub struct Fed {

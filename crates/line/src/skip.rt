@@ -3,7 +3,7 @@ use telegram::STX;
 ghost use mathlib.Core.Path.{_≡_};
 ghost use Prim.Native.Nat.{_+_};
 ghost use lib.ListN.{drop};
-ghost use Rattle.line.specs.Runs.{beginsWithStx, hasStx, strayRun};
+ghost use Rattle.line_rules.specs.Runs.{beginsWithStx, hasStx, strayRun};
 
 // So many bytes are looked at together.
 const BLOCK: usize = 64;

@@ -1,6 +1,1 @@
 pub mod TextLaws
-pub mod DecimalLaws
-pub mod RowLaws
-pub mod LogRowLaws
-pub mod AsPrintedHolds
-pub mod Whole

@@ -1,7 +1,1 @@
-pub mod Decimals
-pub mod Listing
-pub mod LogRows
 pub mod Texts
-pub mod Answers
-pub mod AsPrinted
-pub mod LogAsPrinted

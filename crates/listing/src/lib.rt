@@ -2,6 +2,7 @@
 pub mod log_rows;
 pub mod rows;
 
+pub use listing_rules::RowAnswer;
 use refusals::BUFFER_SHORT;
 ghost use mathlib.Core.Path.{_≡_};
 ghost use mathlib.Core.Bool.{cond};
@@ -9,15 +10,9 @@ ghost use mathlib.Core.List.{[], _∷_};
 ghost use Prim.Native.Nat.{_≤_};
 ghost use Rattle.refusals.specs.Refusals.{done};
 ghost use Rattle.lent_buffer.specs.Laying.{laid};
-ghost use Rattle.listing.specs.Decimals.{digit, two, four, decimal};
+ghost use Rattle.listing_rules.specs.Decimals.{digit, two, four, decimal};
 ghost use Rattle.listing.specs.Texts.{textRoom, emptyText, appended, contentOf};
-ghost use Rattle.listing.specs.Answers.{rowAnswer};
-
-// How many bytes of the buffer the row takes, or the number that refuses it.
-pub enum RowAnswer {
-    Written(usize),
-    Refused(u8),
-}
+ghost use Rattle.listing_rules.specs.Answers.{rowAnswer};
 
 // No row of a line's listing has more bytes.
 pub const LONGEST_ROW: usize = 69;

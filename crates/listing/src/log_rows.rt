@@ -8,9 +8,9 @@ use refusals::NONE;
 ghost use mathlib.Core.Path.{_≡_};
 ghost use Rattle.refusals.specs.Refusals.{done};
 ghost use Rattle.lent_buffer.specs.Laying.{laid};
-ghost use Rattle.listing.specs.LogRows.{logHeader, slotRow, telegramRow, blockRow, verifyHeader, blockColumns, goodRow, badRow, tailRow, badCount};
+ghost use Rattle.listing_rules.specs.LogRows.{logHeader, slotRow, telegramRow, blockRow, verifyHeader, blockColumns, goodRow, badRow, tailRow, badCount};
 ghost use Rattle.listing.specs.Texts.{emptyText, appended};
-ghost use Rattle.listing.specs.Answers.{rowAnswer};
+ghost use Rattle.listing_rules.specs.Answers.{rowAnswer};
 
 fn header_text() -> Text
     ensures { λ r. ⌜ r ≡ appended emptyText logHeader ⌝ }

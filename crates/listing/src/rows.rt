@@ -14,9 +14,9 @@ use refusals::NONE;
 ghost use mathlib.Core.Path.{_≡_};
 ghost use Rattle.refusals.specs.Refusals.{done};
 ghost use Rattle.lent_buffer.specs.Laying.{laid};
-ghost use Rattle.listing.specs.Listing.{headerRow, datedKind, timeKind, dateColumn, timeColumn, receptionWord, seasonWord, statusColumn, datedColumns, timeOnlyColumns, columns, recordRow, refusedRow, eventRow, strayRow};
+ghost use Rattle.listing_rules.specs.Listing.{headerRow, datedKind, timeKind, dateColumn, timeColumn, receptionWord, seasonWord, statusColumn, datedColumns, timeOnlyColumns, columns, recordRow, refusedRow, eventRow, strayRow};
 ghost use Rattle.listing.specs.Texts.{emptyText, appended};
-ghost use Rattle.listing.specs.Answers.{rowAnswer};
+ghost use Rattle.listing_rules.specs.Answers.{rowAnswer};
 
 fn dated_kind(text: Text, layout: DatedLayout) -> Text
     ensures { λ r. ⌜ r ≡ appended text (datedKind layout) ⌝ }

@@ -8,15 +8,15 @@ use lib.Dec.{eqb}
 use lib.ListN.{length}
 use Rattle.refusals.specs.Refusals.{_when_, _else_, Outcome, done, refused, unless, after}
 use Rattle.refusals.proofs.Laws.{was-refused}
-use Rattle.calendar.specs.Calendar.{dateInRange, dayExists}
-use Rattle.record.specs.declared.Record.{Record}
-use Rattle.record.specs.declared.Record.the-variants.{Dated, TimeOnly}
-use Rattle.record.specs.Rule.{statusAllowed, weekdayAllowed, weekdayAgrees, timeAllowed, timeAloneAllowed, timeAloneRefusal, datedRefusal, refusalOf}
-use Rattle.places.specs.Places.{faultOf, fixedHolds, decimalHolds, codeHolds, every}
-use Rattle.layouts.specs.declared.Layout.{Layout}
-use Rattle.layouts.specs.Layouts.{placesOf, layoutOf}
-use Rattle.trailer.specs.declared.Order.{Order}
-use Rattle.telegram.specs.Reading.{bodyIn, framed, carried, bodyRefusal, readIn}
+use Rattle.calendar_rules.specs.Calendar.{dateInRange, dayExists}
+use Rattle.record_rules.specs.declared.Record.{Record}
+use Rattle.record_rules.specs.declared.Record.the-variants.{Dated, TimeOnly}
+use Rattle.record_rules.specs.Rule.{statusAllowed, weekdayAllowed, weekdayAgrees, timeAllowed, timeAloneAllowed, timeAloneRefusal, datedRefusal, refusalOf}
+use Rattle.places_rules.specs.Places.{faultOf, fixedHolds, decimalHolds, codeHolds, every}
+use Rattle.layouts_rules.specs.declared.Layout.{Layout}
+use Rattle.layouts_rules.specs.Layouts.{placesOf, layoutOf}
+use Rattle.trailer_rules.specs.declared.Order.{Order}
+use Rattle.telegram_rules.specs.Reading.{bodyIn, framed, carried, bodyRefusal, readIn}
 
 when-small : (n : ℕ) (holds : Bool) → n ≤ 8 → (n when holds) ≤ 8
 when-small n true h = h

@@ -17,12 +17,12 @@ use Rattle.lent_buffer.proofs.TailLaws.{tail-lent, tail-back}
 use Rattle.lent_buffer.proofs.OneBehindAnotherLaws.{stands-by, Laying, Ended, none-yet, no-more, part-stops, part-stands}
 use Rattle.line.specs.declared.Reader.{Reader}
 use Rattle.line.specs.declared.Fed.{Fed}
-use Rattle.line.specs.declared.Heard.{Heard}
-use Rattle.line.specs.declared.Heard.the-variants.{Nothing, Refused}
+use Rattle.line_rules.specs.declared.Heard.{Heard}
+use Rattle.line_rules.specs.declared.Heard.the-variants.{Nothing, Refused}
 use Rattle.line.specs.Readers.{wellFormed, feedReader, feedReaderAt, lineOf, fedFor}
-use Rattle.line.specs.Line.{feedOf, toldBy, startOf, step}
+use Rattle.line_rules.specs.Line.{feedOf, toldBy, startOf, step}
 use Rattle.line.proofs.PieceLaws.{feed-fits}
-use Rattle.line.proofs.EventLaws.{some-by}
+use Rattle.line_rules.proofs.EventLaws.{some-by}
 use Rattle.listing_of_lines.specs.Pages.{rowFor, Underway, behindCall, ifAny, nextRow, rowsIn, pageFor, stopped, pageOf, listedFor}
 
 -- what has no row is not laid

@@ -13,13 +13,13 @@ use Rattle.lent_buffer.proofs.LayingLaws.{within-fits}
 use Rattle.lent_buffer.proofs.OneBehindAnotherLaws.{first-part, Comes, none, more, ends-by-room}
 use Rattle.line.specs.declared.Reader.{Reader}
 use Rattle.line.specs.Readers.{readerOf, fedFor, freshIn}
-use Rattle.line.specs.Line.{Line, Told, nothing, event, Feeding, stopOr, feedOf, toldBy, step, startOf, heardFor, freshLine}
-use Rattle.line.specs.Events.{eventsOf}
-use Rattle.line.proofs.GoodLines.{Good, good-feed}
+use Rattle.line_rules.specs.Line.{Line, Told, nothing, event, Feeding, stopOr, feedOf, toldBy, step, startOf, heardFor, freshLine}
+use Rattle.line_rules.specs.Events.{eventsOf}
+use Rattle.line_rules.proofs.GoodLines.{Good, good-feed}
 use Rattle.line.proofs.StaysGood.{feed-good, reader-of-good}
-use Rattle.line.proofs.EventLaws.{feed-parts, some-by, shorter, good-fresh}
-use Rattle.listing.specs.Listing.{longestRow}
-use Rattle.listing.proofs.RowLaws.{record-short, refused-short}
+use Rattle.line_rules.proofs.EventLaws.{feed-parts, some-by, shorter, good-fresh}
+use Rattle.listing_rules.specs.Listing.{longestRow}
+use Rattle.listing_rules.proofs.RowLaws.{record-short, refused-short}
 use Rattle.listing_of_lines.specs.Pages.{rowFor, Underway, behindCall, nextRow, rowsIn, pageFor, pageOf}
 use Rattle.listing_of_lines.specs.Whole.{rowOfEvent, rowsOf, turnsWith, lentWith, AllListed, EveryCutCanBeListed}
 use Rattle.listing_of_lines.proofs.PageLaws.{comes-some, comes-none, page-good, left-tail}

@@ -12,21 +12,21 @@ use Rattle.refusals.specs.Refusals.{Outcome, done, refused}
 use Rattle.refusals.proofs.Laws.{does}
 use Rattle.lent_buffer.specs.OneBehindAnother.{part, joined, oneBehindAnother}
 use Rattle.lent_buffer.proofs.OneBehindAnotherLaws.{joined-behind, stands-by}
-use Rattle.record.specs.declared.Record.{Record}
-use Rattle.record.specs.Rule.{refusalOf}
-use Rattle.telegram.specs.Reading.{readIn}
-use Rattle.telegram.proofs.InOrder.{accepted}
-use Rattle.trailer.specs.declared.Order.{Order}
+use Rattle.record_rules.specs.declared.Record.{Record}
+use Rattle.record_rules.specs.Rule.{refusalOf}
+use Rattle.telegram_rules.specs.Reading.{readIn}
+use Rattle.telegram_rules.proofs.InOrder.{accepted}
+use Rattle.trailer_rules.specs.declared.Order.{Order}
 use Rattle.line.specs.declared.Reader.{Reader}
-use Rattle.line.specs.declared.Heard.{Heard}
-use Rattle.line.specs.declared.Heard.the-variants.{Nothing, Event, Refused}
+use Rattle.line_rules.specs.declared.Heard.{Heard}
+use Rattle.line_rules.specs.declared.Heard.the-variants.{Nothing, Event, Refused}
 use Rattle.line.specs.Readers.{readerOf, freshIn, feedReader, endReader}
-use Rattle.line.specs.Line.{places, Line, Told, nothing, event, Feeding, stopOr, feedOf, toldBy, step, startOf, heardFor, freshLine}
-use Rattle.line.specs.Events.{eventsOf, lineAfter, heardThen}
-use Rattle.line.proofs.GoodLines.{Good, good-feed}
+use Rattle.line_rules.specs.Line.{places, Line, Told, nothing, event, Feeding, stopOr, feedOf, toldBy, step, startOf, heardFor, freshLine}
+use Rattle.line_rules.specs.Events.{eventsOf, lineAfter, heardThen}
+use Rattle.line_rules.proofs.GoodLines.{Good, good-feed}
 use Rattle.line.proofs.StaysGood.{feed-good, end-good, reader-of-good}
-use Rattle.line.proofs.EventLaws.{feed-parts, events-join, after-join, good-after, good-fresh}
-use Rattle.listing.specs.Listing.{headerRow, recordRow, strayRow}
+use Rattle.line_rules.proofs.EventLaws.{feed-parts, events-join, after-join, good-after, good-fresh}
+use Rattle.listing_rules.specs.Listing.{headerRow, recordRow, strayRow}
 use Rattle.listing_of_lines.specs.Pages.{rowFor, Underway, behindCall, nextRow, rowsIn, Page, pageOf}
 use Rattle.listing_of_lines.specs.Whole.{rowOfEvent, rowsOf, listingIn, Turns, turnsWith, Lent, bytesLent, rowsLaid, readerLeft, AllListed, WhatIsLaidIsTheListing}
 use Rattle.listing_of_lines.proofs.NumberLaws.{read-number}

@@ -3,7 +3,7 @@ use mathlib.Core.List.{List, [], _∷_, _++_}
 use mathlib.Core.Path.{_≡_}
 use Prim.Native.Nat.{ℕ}
 use Rattle.ascii.specs.Ascii.{ascii}
-use Rattle.trailer.specs.declared.Order.the-variants.{Exchanged}
+use Rattle.trailer_rules.specs.declared.Order.the-variants.{Exchanged}
 use Rattle.listing_of_lines.specs.Whole.{listingIn, listingOf}
 
 -- "`x`, STX `E3123456170496` LF CR ETX, STX `12`, end"

@@ -9,10 +9,10 @@ use Rattle.lent_buffer.specs.declared.Ending.the-variants as ending
 use Rattle.lent_buffer.specs.OneBehindAnother.{Next, nothing, part, Standing, joined, oneBehindAnother}
 use Rattle.line.specs.declared.Reader.{Reader}
 use Rattle.line.specs.declared.Fed.{Fed}
-use Rattle.line.specs.declared.Heard.{Heard}
-use Rattle.line.specs.declared.Heard.the-variants.{Nothing, Event, Refused}
+use Rattle.line_rules.specs.declared.Heard.{Heard}
+use Rattle.line_rules.specs.declared.Heard.the-variants.{Nothing, Event, Refused}
 use Rattle.line.specs.Readers.{wellFormed, feedReader}
-use Rattle.listing.specs.Listing.{eventRow}
+use Rattle.listing_rules.specs.Listing.{eventRow}
 use Rattle.listing_of_lines.specs.declared.Listed.{Listed}
 
 -- the row of what was heard: an event has one, nothing has none, and a refused state has its number

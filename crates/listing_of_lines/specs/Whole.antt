@@ -5,16 +5,16 @@ use Prim.Native.Nat.{ℕ, _%_, _^_, _≤_}
 use Prim.{Unit}
 use lib.ListN.{length, drop, replicate}
 use Rattle.lent_buffer.specs.OneBehindAnother.{joined}
-use Rattle.record.specs.declared.RecordAnswer.the-variants as answer
-use Rattle.trailer.specs.declared.Order.{Order}
-use Rattle.trailer.specs.declared.Order.the-variants.{AsPrinted}
+use Rattle.record_rules.specs.declared.RecordAnswer.the-variants as answer
+use Rattle.trailer_rules.specs.declared.Order.{Order}
+use Rattle.trailer_rules.specs.declared.Order.the-variants.{AsPrinted}
 use Rattle.line.specs.declared.Reader.{Reader}
-use Rattle.line.specs.declared.Heard.{Heard}
-use Rattle.line.specs.declared.Heard.the-variants.{Nothing, Event, Refused}
+use Rattle.line_rules.specs.declared.Heard.{Heard}
+use Rattle.line_rules.specs.declared.Heard.the-variants.{Nothing, Event, Refused}
 use Rattle.line.specs.Readers.{freshIn, endReader}
-use Rattle.line.specs.Line.{Line, freshLine, toldByEnd, startOf, heardFor}
-use Rattle.line.specs.Events.{eventsOf, lineAfter}
-use Rattle.listing.specs.Listing.{longestRow, headerRow, recordRow, refusedRow, strayRow}
+use Rattle.line_rules.specs.Line.{Line, freshLine, toldByEnd, startOf, heardFor}
+use Rattle.line_rules.specs.Events.{eventsOf, lineAfter}
+use Rattle.listing_rules.specs.Listing.{longestRow, headerRow, recordRow, refusedRow, strayRow}
 use Rattle.listing_of_lines.specs.Pages.{pageOf}
 
 -- a row for each event: the record that was read, or the number that it was refused with

@@ -9,7 +9,7 @@ ghost use mathlib.Core.Path.{_≡_};
 ghost use mathlib.Core.List.{_++_};
 ghost use lib.ListN.{length, drop};
 ghost use Rattle.lent_buffer.specs.Laying.{laid};
-ghost use Rattle.listing.specs.Answers.{rowAnswer};
+ghost use Rattle.listing_rules.specs.Answers.{rowAnswer};
 ghost use Rattle.listing_of_lines.specs.Pages.{rowFor, pageOf, listedFor};
 
 // The reader after the bytes that were taken, how many they are, how many bytes their rows take, and how the call ended: the whole

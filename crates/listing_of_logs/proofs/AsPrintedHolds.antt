@@ -1,19 +1,19 @@
 -- The two listings of a small file are as printed, computed from the definitions. Assumes nothing.
 use mathlib.Core.Path.{refl}
 use Rattle.refusals.specs.Refusals.{unless}
-use Rattle.places.specs.Places.{isDecimal, isCapital, codeValue}
-use Rattle.calendar.specs.Calendar.{isLeap, monthLength, monthInRange, dateInRange, dayExists, monthStart, dayOf}
-use Rattle.calendar.specs.TimeOfDay.{timeInRange}
-use Rattle.record.specs.Rule.{plainUtc, tableCanSay, statusAllowed, weekdayAllowed, weekdayAgrees, timeAllowed, timeAloneAllowed, timeAloneRefusal, datedRefusal}
-use Rattle.layouts.specs.Layouts.{placesOf, layoutOf}
-use Rattle.layouts.specs.Coding.{statusIn6021, statusIn5500}
-use Rattle.telegram.specs.Reading.{carried, bodyRefusal, readIn}
-use Rattle.log.specs.Check.{checkOf}
-use Rattle.log.specs.Block.{filled, slotOf, bodyOf, sealed}
-use Rattle.log.specs.Good.{telegramIn, telegramsOf, readsWell, isKept, isGood}
-use Rattle.listing.specs.Decimals.{decimal, decimalWithin}
-use Rattle.listing.specs.Listing.{statusColumn, datedColumns, timeOnlyColumns, refusedRow}
-use Rattle.listing.specs.LogRows.{logHeader, slotRow, verifyHeader, goodRow, badRow, tailRow, badCount}
+use Rattle.places_rules.specs.Places.{isDecimal, isCapital, codeValue}
+use Rattle.calendar_rules.specs.Calendar.{isLeap, monthLength, monthInRange, dateInRange, dayExists, monthStart, dayOf}
+use Rattle.calendar_rules.specs.TimeOfDay.{timeInRange}
+use Rattle.record_rules.specs.Rule.{plainUtc, tableCanSay, statusAllowed, weekdayAllowed, weekdayAgrees, timeAllowed, timeAloneAllowed, timeAloneRefusal, datedRefusal}
+use Rattle.layouts_rules.specs.Layouts.{placesOf, layoutOf}
+use Rattle.layouts_rules.specs.Coding.{statusIn6021, statusIn5500}
+use Rattle.telegram_rules.specs.Reading.{carried, bodyRefusal, readIn}
+use Rattle.log_rules.specs.Check.{checkOf}
+use Rattle.log_rules.specs.Block.{filled, slotOf, bodyOf, sealed}
+use Rattle.log_rules.specs.Good.{telegramIn, telegramsOf, readsWell, isKept, isGood}
+use Rattle.listing_rules.specs.Decimals.{decimal, decimalWithin}
+use Rattle.listing_rules.specs.Listing.{statusColumn, datedColumns, timeOnlyColumns, refusedRow}
+use Rattle.listing_rules.specs.LogRows.{logHeader, slotRow, verifyHeader, goodRow, badRow, tailRow, badCount}
 use Rattle.listing_of_logs.specs.LogPages.{rowOf, blockRows, offsetOf, verifiedRow}
 use Rattle.listing_of_logs.specs.Whole.{logListing, verifyListing}
 use Rattle.listing_of_logs.specs.AsPrinted.{TheListingsOfALogAreAsPrinted}

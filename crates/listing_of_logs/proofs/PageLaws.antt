@@ -14,10 +14,10 @@ use Rattle.refusals.proofs.Laws.{both}
 use Rattle.lent_buffer.specs.Laying.{laid}
 use Rattle.lent_buffer.proofs.LayingLaws.{laid-fits}
 use Rattle.lent_buffer.proofs.TailLaws.{tail-lent, tail-back}
-use Rattle.log.specs.Block.{slots, slotSize}
-use Rattle.log.specs.Good.{countIn, telegramIn, telegramsFrom, telegramsOf, readsWell, allReadWell, isKept, isGood}
-use Rattle.log.proofs.BlockLaws.{count-telegrams, good-kept, kept-count}
-use Rattle.listing.specs.LogRows.{longestLogRow}
+use Rattle.log_rules.specs.Block.{slots, slotSize}
+use Rattle.log_rules.specs.Good.{countIn, telegramIn, telegramsFrom, telegramsOf, readsWell, allReadWell, isKept, isGood}
+use Rattle.log_rules.proofs.BlockLaws.{count-telegrams, good-kept, kept-count}
+use Rattle.listing_rules.specs.LogRows.{longestLogRow}
 use Rattle.listing_of_logs.specs.LogPages.{rowOf, bytesOf, rowsFrom, pageRoom}
 use Rattle.listing_of_logs.proofs.RowLaws.{HasRow, has-row}
 

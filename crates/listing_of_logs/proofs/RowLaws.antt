@@ -12,13 +12,13 @@ use Rattle.refusals.specs.Refusals.{Outcome, done, refused, after}
 use Rattle.refusals.proofs.Laws.{does}
 use Rattle.lent_buffer.specs.Laying.{laid}
 use Rattle.lent_buffer.proofs.LayingLaws.{laid-short, laid-fits}
-use Rattle.record.specs.declared.Record.{Record}
-use Rattle.telegram.specs.Reading.{readOf}
-use Rattle.telegram.proofs.BackAndForth.{accepted-is-written}
-use Rattle.log.specs.Good.{countIn, telegramIn, telegramsOf, isDone, readsWell, isGood}
-use Rattle.log.proofs.BlockLaws.{count-telegrams}
-use Rattle.listing.specs.LogRows.{slotRow, telegramRow, blockRow, goodRow, badRow, longestLogRow}
-use Rattle.listing.proofs.LogRowLaws.{slot-short}
+use Rattle.record_rules.specs.declared.Record.{Record}
+use Rattle.telegram_rules.specs.Reading.{readOf}
+use Rattle.telegram_rules.proofs.BackAndForth.{accepted-is-written}
+use Rattle.log_rules.specs.Good.{countIn, telegramIn, telegramsOf, isDone, readsWell, isGood}
+use Rattle.log_rules.proofs.BlockLaws.{count-telegrams}
+use Rattle.listing_rules.specs.LogRows.{slotRow, telegramRow, blockRow, goodRow, badRow, longestLogRow}
+use Rattle.listing_rules.proofs.LogRowLaws.{slot-short}
 use Rattle.listing_of_logs.specs.LogPages.{rowOf, rowsFrom, blockRows, offsetOf, verifiedRow}
 
 -- the telegram in a slot: behind the length byte, and not past the slot's end

@@ -6,16 +6,16 @@ use Prim.Native.Nat.{ℕ, zero, suc, _+_, _*_, _^_, _≤_, _<_}
 use native.Mathlib.Omega.{arith}
 use lib.ListN.{length, length-append}
 use Rattle.refusals.specs.Refusals.{Outcome, done, refused, unless}
-use Rattle.record.specs.declared.Record.{Record}
-use Rattle.record.specs.Rule.{refusalOf}
-use Rattle.telegram.specs.Reading.{readOf}
-use Rattle.log.specs.Good.{telegramsOf, isGood}
-use Rattle.log.proofs.BlockLaws.{good-kept, kept-count}
-use Rattle.listing.specs.Decimals.{decimal, decimalWithin}
-use Rattle.listing.specs.Listing.{refusedRow}
-use Rattle.listing.specs.LogRows.{logHeader, slotRow, telegramRow, verifyHeader, tailRow, badCount, longestLogRow}
-use Rattle.listing.proofs.RowLaws.{refused-short}
-use Rattle.listing.proofs.LogRowLaws.{slot-short}
+use Rattle.record_rules.specs.declared.Record.{Record}
+use Rattle.record_rules.specs.Rule.{refusalOf}
+use Rattle.telegram_rules.specs.Reading.{readOf}
+use Rattle.log_rules.specs.Good.{telegramsOf, isGood}
+use Rattle.log_rules.proofs.BlockLaws.{good-kept, kept-count}
+use Rattle.listing_rules.specs.Decimals.{decimal, decimalWithin}
+use Rattle.listing_rules.specs.Listing.{refusedRow}
+use Rattle.listing_rules.specs.LogRows.{logHeader, slotRow, telegramRow, verifyHeader, tailRow, badCount, longestLogRow}
+use Rattle.listing_rules.proofs.RowLaws.{refused-short}
+use Rattle.listing_rules.proofs.LogRowLaws.{slot-short}
 use Rattle.listing_of_logs.specs.LogPages.{rowOf, bytesOf, rowsFrom, blockRows, offsetOf, pageRoom}
 use Rattle.listing_of_logs.specs.Whole.{logListing, verifyListing, TheListingsWithNoBlock, APageHoldsTheRowsOfABlock}
 use Rattle.listing_of_logs.proofs.RowLaws.{row-read, rows-good, rows-bad}

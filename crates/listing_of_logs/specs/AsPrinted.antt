@@ -4,8 +4,8 @@ use mathlib.Core.Path.{_≡_}
 use Prim.Native.Nat.{ℕ}
 use lib.ListN.{replicate}
 use Rattle.ascii.specs.Ascii.{ascii}
-use Rattle.log.specs.Block.{blockOf}
-use Rattle.log.specs.AsPrinted.{delivery, stop}
+use Rattle.log_rules.specs.Block.{blockOf}
+use Rattle.log_rules.specs.AsPrinted.{delivery, stop}
 use Rattle.listing_of_logs.specs.Whole.{logListing, verifyListing}
 
 abbrev pub smallFile : List ℕ

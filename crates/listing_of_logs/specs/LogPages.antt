@@ -4,10 +4,10 @@ use mathlib.Core.List.{List, [], _∷_, _++_}
 use Prim.Native.Nat.{ℕ, suc, _*_, _%_, _^_}
 use lib.ListN.{length}
 use Rattle.refusals.specs.Refusals.{Outcome, done, refused, after}
-use Rattle.telegram.specs.Reading.{readOf}
-use Rattle.log.specs.Block.{slots, blockSize}
-use Rattle.log.specs.Good.{telegramsOf, isGood}
-use Rattle.listing.specs.LogRows.{telegramRow, blockRow, goodRow, badRow, longestLogRow}
+use Rattle.telegram_rules.specs.Reading.{readOf}
+use Rattle.log_rules.specs.Block.{slots, blockSize}
+use Rattle.log_rules.specs.Good.{telegramsOf, isGood}
+use Rattle.listing_rules.specs.LogRows.{telegramRow, blockRow, goodRow, badRow, longestLogRow}
 
 -- the row of a telegram in a slot; one that does not read has none, but its own number
 unfoldable pub rowOf : ℕ → ℕ → List ℕ → Outcome (List ℕ)

@@ -5,9 +5,9 @@ use mathlib.Core.Path.{_≡_}
 use Prim.Native.Nat.{ℕ, suc, _^_, _≤_, _<_}
 use lib.ListN.{length}
 use Rattle.ascii.specs.Ascii.{ascii}
-use Rattle.log.specs.Good.{isGood}
-use Rattle.log.specs.Region.{isWhole, blocksIn, wholeBlocks}
-use Rattle.listing.specs.LogRows.{logHeader, blockRow, verifyHeader, tailRow, badCount}
+use Rattle.log_rules.specs.Good.{isGood}
+use Rattle.log_rules.specs.Region.{isWhole, blocksIn, wholeBlocks}
+use Rattle.listing_rules.specs.LogRows.{logHeader, blockRow, verifyHeader, tailRow, badCount}
 use Rattle.listing_of_logs.specs.LogPages.{blockRows, offsetOf, verifiedRow, pageRoom}
 
 -- the rows of blocks, the first of them with the number that is given

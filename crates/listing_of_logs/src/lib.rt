@@ -19,10 +19,10 @@ ghost use Prim.Native.Nat.{_≤_, _<_, min};
 ghost use lib.ListN.{length, take};
 ghost use Rattle.refusals.specs.Refusals.{done};
 ghost use Rattle.lent_buffer.specs.Laying.{laid};
-ghost use Rattle.record.specs.Answers.{recordAnswer};
-ghost use Rattle.telegram.specs.Reading.{readOf};
-ghost use Rattle.log.specs.Good.{telegramIn, telegramsOf, isGood};
-ghost use Rattle.listing.specs.Answers.{rowAnswer};
+ghost use Rattle.record_rules.specs.Answers.{recordAnswer};
+ghost use Rattle.telegram_rules.specs.Reading.{readOf};
+ghost use Rattle.log_rules.specs.Good.{telegramIn, telegramsOf, isGood};
+ghost use Rattle.listing_rules.specs.Answers.{rowAnswer};
 ghost use Rattle.listing_of_logs.specs.LogPages.{rowOf, rowsFrom, blockRows, offsetOf, verifiedRow, pageRoom};
 
 // Room for the rows of any block.

@@ -8,10 +8,10 @@ use lib.ListN.{length, take, drop, length-drop}
 use lib.Seq.{take-all, drop-drop}
 use Rattle.line.specs.declared.Reader.{Reader}
 use Rattle.line.specs.Readers.{readerOf, lineOf, wellFormed}
-use Rattle.line.specs.Line.{places, Line}
-use Rattle.line.specs.Events.{lineAfter}
+use Rattle.line_rules.specs.Line.{places, Line}
+use Rattle.line_rules.specs.Events.{lineAfter}
 use Rattle.line.proofs.ReaderLaws.{reader-back}
-use Rattle.line.proofs.GoodLines.{Good}
+use Rattle.line_rules.proofs.GoodLines.{Good}
 use Rattle.line.proofs.StaysGood.{good-line}
 use Rattle.listing_of_lines.specs.Pages.{Page, pageOf}
 use Rattle.listing_of_lines.proofs.PageLaws.{call-takes}

@@ -5,9 +5,9 @@ use mathlib.Core.List.{List}
 use Prim.Native.Nat.{ℕ}
 use Rattle.line.specs.declared.Reader.{Reader}
 use Rattle.line.specs.Readers.{readerOf, lineOf, wellFormed}
-use Rattle.line.specs.Events.{lineAfter}
-use Rattle.listing.specs.declared.RowAnswer.{RowAnswer}
-use Rattle.listing.specs.declared.RowAnswer.the-variants as row
+use Rattle.line_rules.specs.Events.{lineAfter}
+use Rattle.listing_rules.specs.declared.RowAnswer.{RowAnswer}
+use Rattle.listing_rules.specs.declared.RowAnswer.the-variants as row
 use Rattle.listing_output.specs.declared.Output.{Output}
 use Rattle.listing_output.specs.declared.Output.the-variants as output
 use Rattle.listing_output.specs.declared.Printer.{Printer}

@@ -7,15 +7,15 @@ use native.Mathlib.Omega.{arith}
 use lib.ListN.{length, take, drop}
 use denote.Ref.{RefT, now}
 use Rattle.refusals.specs.Refusals.{_when_, Outcome, done, refused, unless, after}
-use Rattle.log.specs.Good.{telegramsOf, isGood}
-use Rattle.log.specs.Region.{blocksOf}
-use Rattle.log.specs.ReadBack.{numbered, telegramAt, readBackOf}
+use Rattle.log_rules.specs.Good.{telegramsOf, isGood}
+use Rattle.log_rules.specs.Region.{blocksOf}
+use Rattle.log_rules.specs.ReadBack.{numbered, telegramAt, readBackOf}
 use Rattle.log.specs.declared.read_back.Located.{Located}
 use Rattle.log.specs.declared.read_back.Located.the-variants.{At, Refused}
 use Rattle.log.specs.Located.{locatedIn, StandsIn}
-use Rattle.log.specs.Answers.{telegramPlace, numberOf, bytesOf, beginOf, byteAt}
-use Rattle.log.specs.OfTheLog.{TheNumber0TellsATelegram}
-use Rattle.log.proofs.PartLaws.{part-lent}
+use Rattle.log_rules.specs.Answers.{telegramPlace, numberOf, bytesOf, beginOf, byteAt}
+use Rattle.log_rules.specs.OfTheLog.{TheNumber0TellsATelegram}
+use Rattle.log_rules.proofs.PartLaws.{part-lent}
 
 -- what the promise of reading back says of a part's bytes, of where it begins and of the number beside it
 abbrev pub HandedOut : Outcome (List ℕ) → ℕ → RefT (List ℕ) → List ℕ → ℕ × ℕ → ℕ → Type 0

@@ -4,10 +4,10 @@ use mathlib.Core.Path.{_≡_}
 use Prim.Native.Nat.{ℕ, _+_, _≤_}
 use lib.ListN.{length, take, drop}
 use Rattle.refusals.specs.Refusals.{Outcome, done, refused}
-use Rattle.log.specs.declared.add.AddAnswer.the-variants.{Refused}
+use Rattle.log_rules.specs.declared.add.AddAnswer.the-variants.{Refused}
 use Rattle.log.specs.declared.read_back.Located.{Located}
 use Rattle.log.specs.declared.read_back.Located.the-variants as located
-use Rattle.log.specs.Answers.{telegramPlace}
+use Rattle.log_rules.specs.Answers.{telegramPlace}
 
 -- the bytes of a part of the region
 abbrev pub locatedIn : List ℕ → Located → Outcome (List ℕ)

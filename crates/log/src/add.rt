@@ -7,6 +7,7 @@ use super::SLOT_SIZE;
 use super::SLOTS;
 use super::block::is_good;
 use super::check::check_of;
+pub use log_rules::add::AddAnswer;
 use record::RecordAnswer;
 use refusals::NO_FREE_SLOT;
 use refusals::NOT_WHOLE_BLOCKS;
@@ -16,17 +17,11 @@ ghost use mathlib.Core.Path.{_≡_};
 ghost use Prim.Native.Nat.{suc, _<_};
 ghost use lib.ListN.{length, take, drop};
 ghost use Rattle.refusals.specs.Refusals.{done};
-ghost use Rattle.log.specs.Block.{slots, checkPlace, blockSize, sealed};
-ghost use Rattle.log.specs.Good.{countIn, readsWell, isGood};
-ghost use Rattle.log.specs.Add.{placeAt, placeIn, entered, regionAfter, addOf};
-ghost use Rattle.log.specs.Answers.{addAnswer};
-ghost use Rattle.log.specs.Tests.{orElse, placeWith};
-
-// Where the telegram stands, or the number that refuses it. While a place is looked for: where it would stand, or 21.
-pub enum AddAnswer {
-    Added(Place),
-    Refused(u8),
-}
+ghost use Rattle.log_rules.specs.Block.{slots, checkPlace, blockSize, sealed};
+ghost use Rattle.log_rules.specs.Good.{countIn, readsWell, isGood};
+ghost use Rattle.log_rules.specs.Add.{placeAt, placeIn, entered, regionAfter, addOf};
+ghost use Rattle.log_rules.specs.Answers.{addAnswer};
+ghost use Rattle.log_rules.specs.Tests.{orElse, placeWith};
 
 // The place found so far, if any, with one block more: what was found before a used slot is a gap.
 fn place_with(found: AddAnswer, number: usize, block: &[u8]) -> AddAnswer

@@ -9,9 +9,9 @@ use record::RecordAnswer;
 ghost use mathlib.Core.Path.{_≡_};
 ghost use Prim.Native.Nat.{_*_, _≤_};
 ghost use lib.ListN.{length};
-ghost use Rattle.log.specs.Block.{slotSize, blockSize};
-ghost use Rattle.log.specs.Good.{readsWell, isGood};
-ghost use Rattle.log.specs.Tests.{allZero, slotFits, slotsFit, checkFits};
+ghost use Rattle.log_rules.specs.Block.{slotSize, blockSize};
+ghost use Rattle.log_rules.specs.Good.{readsWell, isGood};
+ghost use Rattle.log_rules.specs.Tests.{allZero, slotFits, slotsFit, checkFits};
 
 fn is_zero(bytes: &[u8]) -> bool
     ensures { λ r. ⌜ r ≡ allZero (now (bytes .entry)) ⌝ }

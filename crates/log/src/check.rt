@@ -3,8 +3,8 @@ use super::CHECK_PLACE;
 ghost use mathlib.Core.Path.{_≡_};
 ghost use Prim.Native.Nat.{_≤_};
 ghost use lib.ListN.{length};
-ghost use Rattle.log.specs.Block.{checkPlace};
-ghost use Rattle.log.specs.Check.{checkOf};
+ghost use Rattle.log_rules.specs.Block.{checkPlace};
+ghost use Rattle.log_rules.specs.Check.{checkOf};
 
 const MODULUS: u32 = 65521;
 

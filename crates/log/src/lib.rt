@@ -5,6 +5,8 @@ mod check;
 pub mod read_back;
 pub mod verify;
 
+pub use log_rules::Place;
+
 // A block has 15 slots of 32 bytes.
 pub const SLOTS: usize = 15;
 
@@ -17,9 +19,3 @@ pub const COUNT_PLACE: usize = 480;
 pub const CHECK_PLACE: usize = 510;
 
 pub const BLOCK_SIZE: usize = 512;
-
-// Where a telegram stands: both numbers from 0.
-pub struct Place {
-    pub block: usize,
-    pub slot: usize,
-}

@@ -1,17 +1,11 @@
 // Verifying a region: the first bad block, if there is one.
 use super::BLOCK_SIZE;
 use super::block::is_good;
+pub use log_rules::verify::Verified;
 use refusals::BLOCK_BAD;
 use refusals::NOT_WHOLE_BLOCKS;
 ghost use mathlib.Core.Path.{_≡_};
-ghost use Rattle.log.specs.Verify.{verifyOf};
-
-// All blocks are good; or 20 and the number of the first bad one; or the number that refuses the region.
-pub enum Verified {
-    AllGood,
-    Bad(u8, usize),
-    Refused(u8),
-}
+ghost use Rattle.log_rules.specs.Verify.{verifyOf};
 
 pub fn verify(region: &[u8]) -> Verified
     ensures { λ r. ⌜ r ≡ verifyOf (now (region .entry)) ⌝ }

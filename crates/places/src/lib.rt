@@ -1,5 +1,9 @@
 // Bytes to digits and back, by places. A row says of each byte of a telegram what stands there: a fixed character, a
 // decimal digit, or a status or weekday character. What is done here knows no layout, and holds for any row.
+pub use places_rules::FIRST_CODE;
+pub use places_rules::FIRST_DECIMAL;
+pub use places_rules::Found;
+pub use places_rules::SLOTS;
 use refusals::DIGIT;
 use refusals::FIXED_CHARACTER;
 use refusals::NONE;
@@ -8,24 +12,7 @@ use refusals::lower;
 ghost use mathlib.Core.Path.{_≡_};
 ghost use mathlib.Core.List.{map};
 ghost use Prim.Native.Nat.{_%_};
-ghost use Rattle.places.specs.Places.{place, isDecimal, isCapital, codeValue, keptAt, placeFault, foundIn, codeCharacter, byteAt, render, over};
-
-// The slots that a row's digits have.
-pub const SLOTS: usize = 32;
-
-// A place is one number. Below this one it is the fixed character itself.
-pub const FIRST_DECIMAL: u8 = 128;
-
-// From FIRST_DECIMAL on come the slots of decimal digits, and from here on those of status and weekday.
-pub const FIRST_CODE: u8 = FIRST_DECIMAL + SLOTS as u8;
-
-// What a row finds in some bytes.
-pub struct Found {
-    // The digits, each in the slot that its place names.
-    pub digits: [u8; SLOTS],
-    // 3, 4 or 5, the lowest that some place gives, or 0.
-    pub fault: u8,
-}
+ghost use Rattle.places_rules.specs.Places.{place, isDecimal, isCapital, codeValue, keptAt, placeFault, foundIn, codeCharacter, byteAt, render, over};
 
 fn is_decimal(byte: u8) -> bool
     ensures { λ r. ⌜ r ≡ isDecimal byte ⌝ }

@@ -6,45 +6,9 @@ pub mod season;
 mod sixty;
 pub mod utc;
 
-use calendar::date::Date;
-use calendar::time::Time;
-
-// The layouts with a date.
-pub enum DatedLayout {
-    L6021,
-    L2000,
-    L5500,
-    L5050,
-}
-
-// The layouts that carry the time of day alone: 6021t, 5500t and 5050t.
-pub enum TimeLayout {
-    T6021,
-    T5500,
-    T5050,
-}
-
-pub enum Reception {
-    Invalid,
-    Crystal,
-    Radio,
-    High,
-}
-
-pub struct Status {
-    pub reception: Reception,
-    pub daylight: bool,
-    pub utc: bool,
-    pub announced: bool,
-}
-
-pub enum Record {
-    // Layout, status, weekday (1 Monday to 7 Sunday), date, time.
-    Dated(DatedLayout, Status, u8, Date, Time),
-    TimeOnly(TimeLayout, Time),
-}
-
-pub enum RecordAnswer {
-    Good(Record),
-    Refused(u8),
-}
+pub use record_rules::DatedLayout;
+pub use record_rules::Reception;
+pub use record_rules::Record;
+pub use record_rules::RecordAnswer;
+pub use record_rules::Status;
+pub use record_rules::TimeLayout;

@@ -8,11 +8,11 @@ use calendar::time::NextSecondAnswer;
 use calendar::time::Time;
 use refusals::NONE;
 ghost use mathlib.Core.Path.{_≡_};
-ghost use Rattle.calendar.specs.TimeOfDay.{nextSecond};
-ghost use Rattle.calendar.specs.Answers.{nextSecondAnswer};
-ghost use Rattle.record.specs.Sixty.{upTo59};
-ghost use Rattle.record.specs.Next.{nextSecondOf};
-ghost use Rattle.record.specs.Answers.{recordAnswer};
+ghost use Rattle.calendar_rules.specs.TimeOfDay.{nextSecond};
+ghost use Rattle.calendar_rules.specs.Answers.{nextSecondAnswer};
+ghost use Rattle.record_rules.specs.Sixty.{upTo59};
+ghost use Rattle.record_rules.specs.Next.{nextSecondOf};
+ghost use Rattle.record_rules.specs.Answers.{recordAnswer};
 
 // What is behind a second 60 is what is behind the 59 before it. The calendar is asked about that, and it makes no 60.
 fn next_time(time: Time) -> NextSecondAnswer

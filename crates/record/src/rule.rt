@@ -15,7 +15,7 @@ use refusals::OUT_OF_RANGE;
 use refusals::STATUS_OR_WEEKDAY;
 use refusals::WEEKDAY_DISAGREES;
 ghost use mathlib.Core.Path.{_≡_};
-ghost use Rattle.record.specs.Rule.{crystalOrRadio, plainUtc, tableCanSay, tableOf6021, statusAllowed, weekdayAllowed, timeAllowed, datedRefusal, timeAloneRefusal, refusalOf};
+ghost use Rattle.record_rules.specs.Rule.{crystalOrRadio, plainUtc, tableCanSay, tableOf6021, statusAllowed, weekdayAllowed, timeAllowed, datedRefusal, timeAloneRefusal, refusalOf};
 
 fn is_crystal_or_radio(reception: Reception) -> bool
     ensures { λ r. ⌜ r ≡ crystalOrRadio reception ⌝ }

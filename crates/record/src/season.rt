@@ -1,24 +1,13 @@
 // Local seconds and UTC seconds, each a count of its own from 1 January 1980, 00:00, and the season shift between them.
 // Nothing here knows a record, so that the rule for a record may ask for the shift.
+pub use record_rules::season::Count;
+pub use record_rules::season::LocalSeconds;
+pub use record_rules::season::UtcAnswer;
+pub use record_rules::season::UtcSeconds;
 use refusals::OUTSIDE_CALENDAR;
 ghost use mathlib.Core.Path.{_≡_};
-ghost use Rattle.record.specs.Season.{seasonShift, toUtc};
-ghost use Rattle.record.specs.Answers.{utcAnswer};
-
-pub struct LocalSeconds(pub u32);
-
-pub struct UtcSeconds(pub u32);
-
-// A count of seconds is one or the other.
-pub enum Count {
-    Local(LocalSeconds),
-    Utc(UtcSeconds),
-}
-
-pub enum UtcAnswer {
-    Utc(UtcSeconds),
-    Refused(u8),
-}
+ghost use Rattle.record_rules.specs.Season.{seasonShift, toUtc};
+ghost use Rattle.record_rules.specs.Answers.{utcAnswer};
 
 // The calendar has 36,525 days of 86,400 seconds.
 const CALENDAR_SECONDS: u32 = 36525 * 86400;

@@ -6,9 +6,9 @@ use calendar::date::DaysAnswer;
 use calendar::time::Time;
 ghost use mathlib.Core.Path.{_≡_};
 ghost use mathlib.Core.Bool.{cond};
-ghost use Rattle.calendar.specs.Calendar.{monthLength};
-ghost use Rattle.record.specs.Sixty.{sixtyBehind59, takesSixty, upTo59};
-ghost use Rattle.record.specs.SixtyByFields.{endsInUtc, endsInLocal};
+ghost use Rattle.calendar_rules.specs.Calendar.{monthLength};
+ghost use Rattle.record_rules.specs.Sixty.{sixtyBehind59, takesSixty, upTo59};
+ghost use Rattle.record_rules.specs.SixtyByFields.{endsInUtc, endsInLocal};
 
 // In time-only layouts 60 is accepted when the minute is 59, in any hour of the day: they carry no date that could end a month.
 pub(crate) fn behind_59(time: Time) -> bool

@@ -12,18 +12,14 @@ use calendar::date::Date;
 use calendar::date::DayAnswer;
 use calendar::time::SecondAnswer;
 use calendar::time::Time;
+pub use record_rules::utc::CountAnswer;
 use refusals::NO_DATE;
 use refusals::NONE;
 ghost use mathlib.Core.Path.{_≡_};
-ghost use Rattle.record.specs.Moment.{asMarked, inUtc, momentOf};
-ghost use Rattle.record.specs.Rule.{is60};
-ghost use Rattle.record.specs.Utc.{numberedAs, ownSeconds, countOf, utcSeconds};
-ghost use Rattle.record.specs.Answers.{recordAnswer, countAnswer, utcAnswer};
-
-pub enum CountAnswer {
-    Counted(Count),
-    Refused(u8),
-}
+ghost use Rattle.record_rules.specs.Moment.{asMarked, inUtc, momentOf};
+ghost use Rattle.record_rules.specs.Rule.{is60};
+ghost use Rattle.record_rules.specs.Utc.{numberedAs, ownSeconds, countOf, utcSeconds};
+ghost use Rattle.record_rules.specs.Answers.{recordAnswer, countAnswer, utcAnswer};
 
 fn as_marked(utc: bool, seconds: u32) -> Count
     ensures { λ r. ⌜ r ≡ asMarked utc seconds ⌝ }

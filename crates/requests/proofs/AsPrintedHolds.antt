@@ -1,6 +1,6 @@
 -- The requests are as printed, computed from the definitions. Assumes nothing.
 use mathlib.Core.Path.{refl}
-use Rattle.places.specs.Places.{isDecimal, isCapital, codeValue}
+use Rattle.places_rules.specs.Places.{isDecimal, isCapital, codeValue}
 use Rattle.requests.specs.Requests.{requestOf}
 use Rattle.requests.specs.AsPrinted.{RequestsAreAsPrinted}
 

@@ -11,10 +11,10 @@ use borrow.Author.Tests.{eqb-true}
 use Rattle.refusals.specs.Refusals.{done, refused}
 use Rattle.refusals.specs.Tables.{EachHolds}
 use Rattle.refusals.proofs.Laws.{both}
-use Rattle.places.specs.Places.{Place, isDecimal, isCapital, codeValue, codeCharacter, fixedHolds, decimalHolds, codeHolds, every, faultOf, rowFault, gather, noDigits, render}
-use Rattle.places.proofs.Characters.{character-fits, value-of-character}
-use Rattle.places.proofs.Rows.{distinct, sound, Held}
-use Rattle.places.proofs.RoundTrip.{makes-again, held-gather}
+use Rattle.places_rules.specs.Places.{Place, isDecimal, isCapital, codeValue, codeCharacter, fixedHolds, decimalHolds, codeHolds, every, faultOf, rowFault, gather, noDigits, render}
+use Rattle.places_rules.proofs.Characters.{character-fits, value-of-character}
+use Rattle.places_rules.proofs.Rows.{distinct, sound, Held}
+use Rattle.places_rules.proofs.RoundTrip.{makes-again, held-gather}
 use Rattle.requests.specs.declared.Asked.{Asked}
 use Rattle.requests.specs.declared.Asked.the-variants.{Time, TimeAndDate, UtcTimeAndDate}
 use Rattle.requests.specs.declared.Request.{Request}

@@ -7,8 +7,8 @@ use native.Mathlib.Omega.{arith}
 use lib.ListN.{length, getD, length-map}
 use borrow.Author.Tests.{eq-eqb, ne-eqb}
 use Rattle.refusals.specs.Refusals.{Outcome, done}
-use Rattle.places.specs.Places.{place, placeNumber, rowFault, foundIn}
-use Rattle.places.specs.declared.Found.{Found}
+use Rattle.places_rules.specs.Places.{place, placeNumber, rowFault, foundIn}
+use Rattle.places_rules.specs.declared.Found.{Found}
 use Rattle.requests.specs.declared.Asked.{Asked}
 use Rattle.requests.specs.declared.Asked.the-variants.{Time, TimeAndDate, UtcTimeAndDate}
 use Rattle.requests.specs.declared.Request.{Request}

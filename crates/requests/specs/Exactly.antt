@@ -4,7 +4,7 @@ use mathlib.Core.List.{List, [], _∷_}
 use mathlib.Core.Logic.{_⊎_}
 use Prim.Native.Nat.{ℕ, _*_, _/_, _%_, _≤_, _<_}
 use Rattle.refusals.specs.Refusals.{done, refused}
-use Rattle.places.specs.Places.{codeCharacter}
+use Rattle.places_rules.specs.Places.{codeCharacter}
 use Rattle.requests.specs.declared.Asked.{Asked}
 use Rattle.requests.specs.declared.Request.{Request}
 use Rattle.requests.specs.Requests.{capitalOf, smallOf, request, requestOf}

@@ -7,7 +7,7 @@ use lib.Dec.{eqb}
 use lib.ListN.{length, getD}
 use Rattle.refusals.specs.Refusals.{Outcome, done, refused}
 use Rattle.ascii.specs.Ascii.{ascii}
-use Rattle.places.specs.Places.{Place, fixed, code, rowFault, gather, noDigits}
+use Rattle.places_rules.specs.Places.{Place, fixed, code, rowFault, gather, noDigits}
 use Rattle.requests.specs.declared.Asked.{Asked}
 use Rattle.requests.specs.declared.Asked.the-variants.{Time, TimeAndDate, UtcTimeAndDate}
 use Rattle.requests.specs.declared.Request.{Request}

@@ -4,7 +4,7 @@ use refusals::NO_REQUEST;
 use refusals::NONE;
 ghost use mathlib.Core.Path.{_≡_};
 ghost use mathlib.Core.List.{[], _∷_, map};
-ghost use Rattle.places.specs.Places.{place};
+ghost use Rattle.places_rules.specs.Places.{place};
 ghost use Rattle.requests.specs.Requests.{delayFor, requestIn, requestOf};
 ghost use Rattle.requests.specs.Answers.{requestAnswer};
 

@@ -10,10 +10,10 @@ use borrow.Author.Tests.{leb-true, leb-false, not-true}
 use Rattle.refusals.specs.Refusals.{refused}
 use Rattle.refusals.proofs.Laws.{both}
 use Rattle.ascii.specs.Control.{stx, etx}
-use Rattle.trailer.specs.declared.Order.{Order}
-use Rattle.line.specs.declared.Heard.{Heard}
-use Rattle.line.specs.Line.{Line, lineWith, Told, nothing, event, judgement, heldAfterAt, toldByAt, strayBy, stepAt, startOf, Feeding, stopOr, feedAt, heardFor}
-use Rattle.line.specs.Events.{tells, eventsAt, lineAfterAt}
+use Rattle.trailer_rules.specs.declared.Order.{Order}
+use Rattle.line_rules.specs.declared.Heard.{Heard}
+use Rattle.line_rules.specs.Line.{Line, lineWith, Told, nothing, event, judgement, heldAfterAt, toldByAt, strayBy, stepAt, startOf, Feeding, stopOr, feedAt, heardFor}
+use Rattle.line_rules.specs.Events.{tells, eventsAt, lineAfterAt}
 use Rattle.takeover.specs.Sentences.{isTen, noTen}
 
 -- what a call has heard

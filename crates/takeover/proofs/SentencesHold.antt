@@ -8,14 +8,14 @@ use lib.ListN.{length, replicate, length-append, length-take, length-replicate, 
 use borrow.Author.Tests.{leb-true, not-true}
 use Rattle.refusals.proofs.Laws.{both}
 use Rattle.line.specs.declared.Reader.{Reader}
-use Rattle.line.specs.declared.Heard.{Heard}
-use Rattle.line.specs.declared.Heard.the-variants.{Nothing, Event, Refused}
+use Rattle.line_rules.specs.declared.Heard.{Heard}
+use Rattle.line_rules.specs.declared.Heard.the-variants.{Nothing, Event, Refused}
 use Rattle.line.specs.Readers.{readerWith, fedAt, readerAt, lineOf, wellFormedAt, wellFormed, feedReaderAt, feedReader, endReaderAt, endReader}
-use Rattle.line.specs.Line.{places, Line, startOf, ended, toldByEnd, feedAt, heardFor, isStarted, freshLine}
-use Rattle.line.specs.Events.{eventsAt, lineAfterAt, heardThen}
+use Rattle.line_rules.specs.Line.{places, Line, startOf, ended, toldByEnd, feedAt, heardFor, isStarted, freshLine}
+use Rattle.line_rules.specs.Events.{eventsAt, lineAfterAt, heardThen}
 use Rattle.line.specs.Cuts.{Calls, calledFor, callsThen, feeding, callsOf, Served, heardOf, readerBehind}
 use Rattle.line.proofs.ReaderLaws.{well as well-of}
-use Rattle.line.proofs.GoodLines.{GoodAt, good-feed-at, good-after-at}
+use Rattle.line_rules.proofs.GoodLines.{GoodAt, good-feed-at, good-after-at}
 use Rattle.line.proofs.StaysGood.{reader-of-good}
 use Rattle.takeover.specs.TakingOver.{keptPlaces, stateOf, wasWellFormed, withMorePlaces, takenOver, refusedFor, takeOver}
 use Rattle.takeover.specs.Sentences.{lineKept, isTen, noTen, fedOn, endedOn, TheOldBoundIs24, RefusesWhatTheOldRuleRefused, WhatTheOldReaderLeftIsTakenOver, ARefusedStateComesBackUnchanged, MoreHeldThanThereWerePlacesIs15, WhatIsTakenOverIsTheSame, WhatIsTakenOverIsWellFormed, WithoutATenNothingDiffers, ACallWithoutATenIsTheSame, TheEndIsTheSame, WithoutATenEachCutIsTheSame}

@@ -10,7 +10,7 @@ use lib.Seq.{take-append-le, drop-append-le}
 use borrow.Author.Tests.{le-leb, lt-leb}
 use Rattle.line.specs.declared.Reader.{Reader}
 use Rattle.line.specs.Readers.{lineOf, allZero, wellFormedAt, wellFormed}
-use Rattle.line.specs.Line.{places, lineWith, startOf, isStarted}
+use Rattle.line_rules.specs.Line.{places, lineWith, startOf, isStarted}
 use Rattle.line.proofs.Wraps.{zeros-are}
 use Rattle.takeover.specs.declared.Kept.{Kept}
 use Rattle.takeover.specs.TakingOver.{keptPlaces, stateOf, wasWellFormed, withMorePlaces, takenOver, refusedFor, takeOver}

@@ -6,16 +6,16 @@ use mathlib.Core.Path.{_≡_}
 use Prim.Native.Nat.{ℕ, _<_}
 use lib.Dec.{eqb}
 use lib.ListN.{take}
-use Rattle.record.specs.declared.RecordAnswer.the-variants as answer
+use Rattle.record_rules.specs.declared.RecordAnswer.the-variants as answer
 use Rattle.line.specs.declared.Reader.{Reader}
-use Rattle.line.specs.declared.Heard.{Heard}
-use Rattle.line.specs.declared.Heard.the-variants.{Nothing, Event, Refused}
+use Rattle.line_rules.specs.declared.Heard.{Heard}
+use Rattle.line_rules.specs.declared.Heard.the-variants.{Nothing, Event, Refused}
 use Rattle.line.specs.declared.Fed.{Fed}
 use Rattle.line.specs.declared.Ended.{Ended}
-use Rattle.trailer.specs.declared.Order.{Order}
+use Rattle.trailer_rules.specs.declared.Order.{Order}
 use Rattle.line.specs.Readers.{lineOf, readerAt, freshIn, wellFormedAt, wellFormed, AsDeclared, feedReaderAt, feedReader, endReaderAt, endReader}
-use Rattle.line.specs.Line.{Line, freshLine}
-use Rattle.line.specs.Events.{eventsAt, lineAfterAt, eventsOf, lineAfter}
+use Rattle.line_rules.specs.Line.{Line, freshLine}
+use Rattle.line_rules.specs.Events.{eventsAt, lineAfterAt, eventsOf, lineAfter}
 use Rattle.line.specs.Cuts.{feeding, Served, heardOf, readerBehind, heardFrom, readerAfter}
 use Rattle.takeover.specs.declared.Kept.{Kept}
 use Rattle.takeover.specs.TakingOver.{keptPlaces, stateOf, wasWellFormed, AsKept, withMorePlaces, takeOver}

@@ -6,7 +6,7 @@ use Prim.Native.Nat.{ℕ, _-_, _^_, _<_}
 use lib.ListN.{length, replicate}
 use Rattle.line.specs.declared.Reader.{Reader}
 use Rattle.line.specs.Readers.{readerWith, freshIn, wellFormedAt}
-use Rattle.line.specs.Line.{places}
+use Rattle.line_rules.specs.Line.{places}
 use Rattle.takeover.specs.declared.Kept.{Kept}
 use Rattle.takeover.specs.declared.TakenOver.{TakenOver}
 

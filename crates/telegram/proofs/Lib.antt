@@ -1,11 +1,1 @@
-pub mod ReadLaws
-pub mod WriteLaws
 pub mod SeveralLaws
-pub mod Frames
-pub mod BackAndForth
-pub mod InOrder
-pub mod ExchangeLaws
-pub mod ReadsBack
-pub mod Whole
-pub mod AsPrintedHolds
-pub mod OrderAsPrintedHolds

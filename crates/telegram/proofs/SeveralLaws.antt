@@ -14,11 +14,11 @@ use Rattle.lent_buffer.specs.OneBehindAnother.{Standing, joined, partThen, oneB
 use Rattle.lent_buffer.proofs.LayingLaws.{stands, stops}
 use Rattle.lent_buffer.proofs.TailLaws.{tail-lent, tail-back}
 use Rattle.lent_buffer.proofs.OneBehindAnotherLaws.{no-part, first-part, Laying, Ended, none-yet, no-more, part-stops, part-stands}
-use Rattle.record.specs.declared.Record.{Record}
-use Rattle.telegram.specs.declared.write.Choice.{Choice}
+use Rattle.record_rules.specs.declared.Record.{Record}
+use Rattle.telegram_rules.specs.declared.write.Choice.{Choice}
 use Rattle.telegram.specs.declared.several.Several.{Several}
 use Rattle.telegram.specs.SeveralTelegrams.{noneYet, withMore, unlessEnded, severalAfter, severalAll}
-use Rattle.telegram.specs.Writing.{telegramFor, nextTelegram, telegramsIn}
+use Rattle.telegram_rules.specs.Writing.{telegramFor, nextTelegram, telegramsIn}
 
 -- how several stand with one telegram more
 abbrev pub oneMore : Several → Outcome ℕ → Several

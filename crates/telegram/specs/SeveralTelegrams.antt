@@ -7,10 +7,10 @@ use Rattle.lent_buffer.specs.declared.Ending.{Ending}
 use Rattle.lent_buffer.specs.declared.Ending.the-variants.{Whole, Refused}
 use Rattle.lent_buffer.specs.Laying.{laidIn}
 use Rattle.lent_buffer.specs.OneBehindAnother.{Standing, joined}
-use Rattle.record.specs.declared.Record.{Record}
-use Rattle.telegram.specs.declared.write.Choice.{Choice}
+use Rattle.record_rules.specs.declared.Record.{Record}
+use Rattle.telegram_rules.specs.declared.write.Choice.{Choice}
 use Rattle.telegram.specs.declared.several.Several.{Several}
-use Rattle.telegram.specs.Writing.{telegramsIn}
+use Rattle.telegram_rules.specs.Writing.{telegramsIn}
 
 -- nothing written yet
 abbrev pub noneYet : Several

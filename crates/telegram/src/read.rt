@@ -13,9 +13,9 @@ use trailer::place_in;
 ghost use mathlib.Core.Path.{_≡_};
 ghost use mathlib.Core.Bool.{true};
 ghost use lib.ListN.{take};
-ghost use Rattle.record.specs.Answers.{recordAnswer};
-ghost use Rattle.trailer.specs.declared.Order.the-variants.{Exchanged};
-ghost use Rattle.telegram.specs.Reading.{framed, readBodyAs, readIn, readOf};
+ghost use Rattle.record_rules.specs.Answers.{recordAnswer};
+ghost use Rattle.trailer_rules.specs.declared.Order.the-variants.{Exchanged};
+ghost use Rattle.telegram_rules.specs.Reading.{framed, readBodyAs, readIn, readOf};
 
 // No layout is longer, with STX and ETX or without.
 const LONGEST: usize = 25;

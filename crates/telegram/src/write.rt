@@ -9,6 +9,9 @@ use record::RecordAnswer;
 use refusals::BUFFER_SHORT;
 use refusals::NO_DATE;
 use refusals::NONE;
+pub use telegram_rules::write::Choice;
+pub use telegram_rules::write::Setting;
+pub use telegram_rules::write::WriteAnswer;
 use trailer::Order;
 use trailer::exchange;
 use trailer::place_in;
@@ -16,29 +19,11 @@ ghost use mathlib.Core.Path.{_≡_};
 ghost use mathlib.Core.Bool.{true, false};
 ghost use Rattle.refusals.specs.Refusals.{done};
 ghost use Rattle.lent_buffer.specs.Laying.{laid};
-ghost use Rattle.record.specs.Answers.{recordAnswer};
-ghost use Rattle.layouts.specs.Layouts.{spanOf, ownLayout};
-ghost use Rattle.trailer.specs.declared.Order.the-variants.{Exchanged};
-ghost use Rattle.telegram.specs.Writing.{as6021, judgedOf, recordBy, recordToWrite, controlOf, orderOf, telegramIn, telegramOf, telegramFor};
-ghost use Rattle.telegram.specs.Answers.{writeAnswer};
-
-pub struct Setting {
-    pub control: bool,
-    pub advance: bool,
-}
-
-// What a caller asks for: a setting by name, with the order of the trailer or, as printed, without; or none, which is a 6021 between
-// STX and ETX as printed, without second advance.
-pub enum Choice {
-    Named(Setting),
-    NamedIn(Setting, Order),
-    Unnamed,
-}
-
-pub enum WriteAnswer {
-    Written(usize),
-    Refused(u8),
-}
+ghost use Rattle.record_rules.specs.Answers.{recordAnswer};
+ghost use Rattle.layouts_rules.specs.Layouts.{spanOf, ownLayout};
+ghost use Rattle.trailer_rules.specs.declared.Order.the-variants.{Exchanged};
+ghost use Rattle.telegram_rules.specs.Writing.{as6021, judgedOf, recordBy, recordToWrite, controlOf, orderOf, telegramIn, telegramOf, telegramFor};
+ghost use Rattle.telegram_rules.specs.Answers.{writeAnswer};
 
 // The record as it is, if no rule refuses it.
 fn judged(rec: Record) -> RecordAnswer

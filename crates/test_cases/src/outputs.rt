@@ -1,8 +1,8 @@
 // How an outcome is printed: numbers, each with a space behind it. A refusal is its number, and anything else is 0 and its values.
 use calendar::date::Date;
 use calendar::time::Time;
-use lent_buffer::Ending;
 use layouts::Layout;
+use lent_buffer::Ending;
 use libc::STDOUT_FILENO;
 use line::Heard;
 use line::Reader;

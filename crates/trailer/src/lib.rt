@@ -1,12 +1,7 @@
 // The trailer, which is the last two bytes of what stands between STX and ETX, and the order of its CR and LF.
+pub use trailer_rules::Order;
 ghost use mathlib.Core.Path.{_≡_};
-ghost use Rattle.trailer.specs.Trailer.{sizeFrom, trailerAt, exchangeAt};
-
-// A setting of the line, which its reader and its writer have to share: as the tables print it, or exchanged.
-pub enum Order {
-    AsPrinted,
-    Exchanged,
-}
+ghost use Rattle.trailer_rules.specs.Trailer.{sizeFrom, trailerAt, exchangeAt};
 
 // How many bytes stand from the trailer on: its two, and ETX behind them where there are control characters.
 fn size_from(control: bool) -> usize

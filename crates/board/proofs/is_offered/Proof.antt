@@ -1,7 +1,7 @@
 -- `board::is_offered` meets its contract.
 use mathlib.Core.Path.{sym, _∙_}
 use borrow.Author.Tests.{not-true, not-false}
-use Rattle.board.specs.Settings.{isOffered}
+use Rattle.board_rules.specs.Settings.{isOffered}
 use borrow.Author.Needs.{needs}
 use Rattle.board.proofs.is_offered.Statement.{statement}
 use Rattle.board.proofs.is_offered.Tie as tie

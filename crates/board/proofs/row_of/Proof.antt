@@ -4,8 +4,8 @@ use mathlib.Core.Path.{_≡_, sym}
 use Prim.Native.Nat.{_+_, _-_, _≤_}
 use native.Mathlib.Omega.{arith}
 use lib.ListN.{drop}
-use Rattle.board.specs.Rates.{rates, rowIn, rateRow}
-use Rattle.board.proofs.RateLaws.{row-here, row-behind}
+use Rattle.board_rules.specs.Rates.{rates, rowIn, rateRow}
+use Rattle.board_rules.proofs.RateLaws.{row-here, row-behind}
 use Rattle.board.proofs.row_of.Statement.{statement}
 use Rattle.board.proofs.row_of.Tie as tie
 

@@ -5,9 +5,9 @@ use mathlib.Core.List.{[], _∷_}
 use Prim.Native.Nat.{_+_, _<_, _%_, _^_}
 use lib.ListN.{length, length-map, take, getD}
 use Rattle.refusals.specs.Refusals.{refused}
-use Rattle.line.specs.declared.Heard.the-variants.{Nothing}
+use Rattle.line_rules.specs.declared.Heard.the-variants.{Nothing}
 use Rattle.line.specs.Readers.{readerWith}
-use Rattle.line.specs.Line.{places, judgement, answerFor}
+use Rattle.line_rules.specs.Line.{places, judgement, answerFor}
 use Rattle.line.proofs.ReaderLaws.{well}
 use Rattle.line.proofs.Inside.{added, gathered, gathered-size, added-fits, inside-holds, stops-with, told-etx, told-stx, told-full, judged, answered}
 use borrow.Author.Needs.{needs}

@@ -2,7 +2,7 @@
 use native.Mathlib.Omega.{arith}
 use mathlib.Core.Path.{sym, _∙_}
 use borrow.Author.Needs.{needs}
-use Rattle.line.proofs.RunLaws.{begins-at-once, stray-ends}
+use Rattle.line_rules.proofs.RunLaws.{begins-at-once, stray-ends}
 use Rattle.line.proofs.Strays.{outside-all}
 use Rattle.line.proofs.feed_outside.Statement.{statement}
 use Rattle.line.proofs.feed_outside.Tie as tie

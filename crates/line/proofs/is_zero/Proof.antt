@@ -5,7 +5,7 @@ use mathlib.Core.Bool.{_&&_, and-assoc, and-true}
 use Prim.Native.Nat.{_-_}
 use lib.ListN.{length, drop}
 use Rattle.line.specs.Readers.{allZero}
-use Rattle.line.specs.Line.{places}
+use Rattle.line_rules.specs.Line.{places}
 use Rattle.line.proofs.Forms.{zero-step, zero-end}
 use Rattle.line.proofs.is_zero.Statement.{statement}
 use Rattle.line.proofs.is_zero.Tie as tie

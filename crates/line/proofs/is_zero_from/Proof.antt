@@ -7,7 +7,7 @@ use lib.ListN.{length, drop}
 use borrow.Author.Needs.{needs}
 use borrow.Author.Tests.{eq-eqb, ne-eqb}
 use Rattle.line.specs.Readers.{allZero}
-use Rattle.line.specs.Line.{places}
+use Rattle.line_rules.specs.Line.{places}
 use Rattle.line.proofs.Forms.{zero-step, zero-end}
 use Rattle.line.proofs.is_zero_from.Statement.{statement}
 use Rattle.line.proofs.is_zero_from.Tie as tie

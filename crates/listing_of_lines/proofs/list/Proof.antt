@@ -6,7 +6,7 @@ use mathlib.Core.Path.{ap, sym, _∙_}
 use mathlib.Core.List.{_++_}
 use Prim.Native.Nat.{_+_, _-_}
 use lib.ListN.{length, drop}
-use Rattle.listing.specs.Answers.{rowAnswer}
+use Rattle.listing_rules.specs.Answers.{rowAnswer}
 use Rattle.listing_of_lines.specs.Pages.{rowsIn, listedFor}
 use Rattle.listing_of_lines.proofs.PageLaws.{Holds, none-listed, row-stands, row-stops, page-ends, page-refused, page-good}
 use Rattle.listing_of_lines.proofs.list.Statement.{statement}

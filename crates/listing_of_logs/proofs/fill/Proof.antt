@@ -4,9 +4,9 @@ use Prim.Native.Nat.{_*_, _-_}
 use native.Mathlib.Omega.{arith}
 use borrow.Author.Needs.{needs}
 use lib.ListN.{length, take, drop, length-take, length-drop}
-use Rattle.log.specs.Block.{slotSize}
-use Rattle.log.proofs.BlockLaws.{good-length}
-use Rattle.listing.specs.Answers.{rowAnswer}
+use Rattle.log_rules.specs.Block.{slotSize}
+use Rattle.log_rules.proofs.BlockLaws.{good-length}
+use Rattle.listing_rules.specs.Answers.{rowAnswer}
 use Rattle.listing_of_logs.proofs.PageLaws.{Filling, none-yet, inside-page, full, slot-at, not-refused, one-more}
 use Rattle.listing_of_logs.proofs.fill.Statement.{statement}
 use Rattle.listing_of_logs.proofs.fill.Tie as tie

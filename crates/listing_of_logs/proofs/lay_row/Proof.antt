@@ -2,8 +2,8 @@
 use mathlib.Core.Path.{ap, sym, _∙_}
 use Rattle.lent_buffer.specs.Laying.{laid}
 use Rattle.lent_buffer.proofs.LayingLaws.{laid-refused}
-use Rattle.record.specs.Answers.{recordAnswer}
-use Rattle.log.specs.Good.{telegramIn}
+use Rattle.record_rules.specs.Answers.{recordAnswer}
+use Rattle.log_rules.specs.Good.{telegramIn}
 use Rattle.listing_of_logs.proofs.RowLaws.{row-read}
 use borrow.Author.Needs.{needs}
 use Rattle.listing_of_logs.proofs.lay_row.Statement.{statement}

@@ -2,7 +2,7 @@
 use mathlib.Core.Path.{ap, _∙_}
 use native.Mathlib.Omega.{arith}
 use mathlib.Core.Bool.{true}
-use Rattle.telegram.specs.Reading.{readOf}
+use Rattle.telegram_rules.specs.Reading.{readOf}
 use Rattle.listing_of_logs.proofs.RowLaws.{slot-part}
 use borrow.Author.Needs.{needs}
 use Rattle.listing_of_logs.proofs.read_slot.Statement.{statement}

@@ -6,8 +6,8 @@ use borrow.Author.Needs.{needs}
 use lib.ListN.{getD}
 use Rattle.refusals.specs.Refusals.{done}
 use Rattle.lent_buffer.specs.Laying.{laid}
-use Rattle.log.proofs.BlockLaws.{good-length}
-use Rattle.listing.specs.LogRows.{goodRow, badRow}
+use Rattle.log_rules.proofs.BlockLaws.{good-length}
+use Rattle.listing_rules.specs.LogRows.{goodRow, badRow}
 use Rattle.listing_of_logs.proofs.RowLaws.{verified-good, verified-bad}
 use Rattle.listing_of_logs.proofs.verified_row.Statement.{statement}
 use Rattle.listing_of_logs.proofs.verified_row.Tie as tie

@@ -5,7 +5,7 @@ use borrow.Author.Tests.{not-true, not-false}
 use mathlib.Core.Path.{_≡_, refl, ap, sym, _∙_}
 use Prim.Native.Nat.{_-_, _≤_}
 use lib.ListN.{length, drop, length-map, drop-of-length-le}
-use Rattle.line.specs.Line.{places}
+use Rattle.line_rules.specs.Line.{places}
 use Rattle.listing_output.specs.declared.Output.the-variants as output
 use Rattle.listing_output.specs.declared.Printer.{Printer}
 use Rattle.listing_output.specs.Printing.{afterPiece}

@@ -1,7 +1,7 @@
 -- `places::byte_at` meets its contract.
 use mathlib.Core.Path.{sym, ap, _≡_}
-use Rattle.places.specs.Places.{byteAt}
-use Rattle.places.proofs.Numbers.{is-fixed, by-digit}
+use Rattle.places_rules.specs.Places.{byteAt}
+use Rattle.places_rules.proofs.Numbers.{is-fixed, by-digit}
 use borrow.Author.Needs.{needs}
 use Rattle.places.proofs.byte_at.Statement.{statement}
 use Rattle.places.proofs.byte_at.Tie as tie

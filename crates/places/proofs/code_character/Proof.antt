@@ -1,6 +1,6 @@
 -- `places::code_character` meets its contract.
 use borrow.Author.Tests.{lt-ltb, le-ltb}
-use Rattle.places.specs.Places.{codeCharacter}
+use Rattle.places_rules.specs.Places.{codeCharacter}
 use borrow.Author.Needs.{needs}
 use Rattle.places.proofs.code_character.Statement.{statement}
 use Rattle.places.proofs.code_character.Tie as tie

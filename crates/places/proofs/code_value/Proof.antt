@@ -1,8 +1,8 @@
 -- `places::code_value` meets its contract.
 use native.Mathlib.Omega.{arith}
 use mathlib.Core.Path.{sym, _∙_}
-use Rattle.places.specs.Places.{codeValue}
-use Rattle.places.proofs.Characters.{decimal-bounds, capital-bounds}
+use Rattle.places_rules.specs.Places.{codeValue}
+use Rattle.places_rules.proofs.Characters.{decimal-bounds, capital-bounds}
 use borrow.Author.Needs.{needs}
 use Rattle.places.proofs.code_value.Statement.{statement}
 use Rattle.places.proofs.code_value.Tie as tie

@@ -1,6 +1,6 @@
 -- `places::is_capital` meets its contract.
 use borrow.Author.Tests.{lt-leb, le-leb}
-use Rattle.places.specs.Places.{isCapital}
+use Rattle.places_rules.specs.Places.{isCapital}
 use Rattle.places.proofs.is_capital.Statement.{statement}
 use Rattle.places.proofs.is_capital.Tie as tie
 

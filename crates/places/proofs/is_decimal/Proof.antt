@@ -1,6 +1,6 @@
 -- `places::is_decimal` meets its contract.
 use borrow.Author.Tests.{lt-leb, le-leb}
-use Rattle.places.specs.Places.{isDecimal}
+use Rattle.places_rules.specs.Places.{isDecimal}
 use Rattle.places.proofs.is_decimal.Statement.{statement}
 use Rattle.places.proofs.is_decimal.Tie as tie
 

@@ -7,7 +7,7 @@ use Prim.Native.Nat.{_-_, _≤_}
 use native.Mathlib.Omega.{arith}
 use borrow.Author.Needs.{needs}
 use lib.ListN.{length, set}
-use Rattle.places.proofs.Rendering.{laid, laid-none, laid-next, laid-row, laid-out}
+use Rattle.places_rules.proofs.Rendering.{laid, laid-none, laid-next, laid-row, laid-out}
 use Rattle.places.proofs.render.Statement.{statement}
 use Rattle.places.proofs.render.Tie as tie
 

@@ -7,9 +7,9 @@ use Prim.Native.Nat.{_-_, _%_}
 use lib.ListN.{length, drop, getD, set}
 use borrow.Author.Tests.{ltb-true, ltb-false}
 use Rattle.refusals.specs.Refusals.{lower}
-use Rattle.places.specs.Places.{slots, place, foundIn}
-use Rattle.places.specs.declared.Found.{Found}
-use Rattle.places.proofs.Scanning.{onward, onward-all, onward-step, onward-row-ends, onward-bytes-end}
+use Rattle.places_rules.specs.Places.{slots, place, foundIn}
+use Rattle.places_rules.specs.declared.Found.{Found}
+use Rattle.places_rules.proofs.Scanning.{onward, onward-all, onward-step, onward-row-ends, onward-bytes-end}
 use Rattle.places.proofs.scan.Statement.{statement}
 use Rattle.places.proofs.scan.Tie as tie
 

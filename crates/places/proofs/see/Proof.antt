@@ -3,9 +3,9 @@ use mathlib.Core.Path.{_≡_, refl, sym, _∙_}
 use Prim.Native.Nat.{_-_}
 use native.Mathlib.Omega.{arith}
 use borrow.Author.Tests.{eq-eqb, ne-eqb}
-use Rattle.places.specs.Places.{codeValue, keptAt, placeFault}
-use Rattle.places.proofs.Characters.{decimal-bounds, capital-bounds, decimal-value, capital-value}
-use Rattle.places.proofs.Numbers.{is-fixed, is-decimal-place, is-code, by-digit}
+use Rattle.places_rules.specs.Places.{codeValue, keptAt, placeFault}
+use Rattle.places_rules.proofs.Characters.{decimal-bounds, capital-bounds, decimal-value, capital-value}
+use Rattle.places_rules.proofs.Numbers.{is-fixed, is-decimal-place, is-code, by-digit}
 use borrow.Author.Needs.{needs}
 use Rattle.places.proofs.see.Statement.{statement}
 use Rattle.places.proofs.see.Tie as tie

@@ -7,7 +7,7 @@ use lib.ListN.{length, take, drop, getD, replicate, length-map, length-set, take
 use lib.Seq.{take-all, drop-set-lt}
 use Rattle.lent_buffer.proofs.CopyLaws.{copy-step}
 use Rattle.line.specs.Readers.{readerWith}
-use Rattle.line.specs.Line.{places}
+use Rattle.line_rules.specs.Line.{places}
 use Rattle.takeover.specs.TakingOver.{keptPlaces}
 use Rattle.takeover.proofs.with_more_places.Statement.{statement}
 use Rattle.takeover.proofs.with_more_places.Tie as tie

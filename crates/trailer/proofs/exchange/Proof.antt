@@ -4,7 +4,7 @@ use native.Mathlib.Numerals.{add-one}
 use native.Mathlib.Omega.{arith}
 use lib.ListN.{length-set}
 use borrow.Author.Needs.{needs}
-use Rattle.trailer.proofs.TrailerLaws.{exchange-stores, exchange-none}
+use Rattle.trailer_rules.proofs.TrailerLaws.{exchange-stores, exchange-none}
 use Rattle.trailer.proofs.exchange.Statement.{statement}
 use Rattle.trailer.proofs.exchange.Tie as tie
 

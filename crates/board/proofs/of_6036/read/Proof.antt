@@ -1,5 +1,5 @@
 -- `board::of_6036::read` meets its contract.
-use Rattle.board.specs.Of6036.{parameterIn}
+use Rattle.board_rules.specs.Of6036.{parameterIn}
 use borrow.Author.Needs.{needs}
 use Rattle.board.proofs.of_6036.read.Statement.{statement}
 use Rattle.board.proofs.of_6036.read.Tie as tie

@@ -2,8 +2,8 @@
 use mathlib.Core.Path.{sym, _∙_}
 use borrow.Author.Tests.{not-true, not-false}
 use Rattle.refusals.specs.Refusals.{unless}
-use Rattle.board.specs.Of6036.{thirdFor, fourthFor, switchesFor, byteFor}
-use Rattle.board.proofs.SettingLaws.{of-each}
+use Rattle.board_rules.specs.Of6036.{thirdFor, fourthFor, switchesFor, byteFor}
+use Rattle.board_rules.proofs.SettingLaws.{of-each}
 use borrow.Author.Needs.{needs}
 use Rattle.board.proofs.of_6036.write.Statement.{statement}
 use Rattle.board.proofs.of_6036.write.Tie as tie

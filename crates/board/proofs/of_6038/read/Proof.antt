@@ -1,5 +1,5 @@
 -- `board::of_6038::read` meets its contract.
-use Rattle.board.specs.Of6038.{parameterIn}
+use Rattle.board_rules.specs.Of6038.{parameterIn}
 use borrow.Author.Needs.{needs}
 use Rattle.board.proofs.of_6038.read.Statement.{statement}
 use Rattle.board.proofs.of_6038.read.Tie as tie

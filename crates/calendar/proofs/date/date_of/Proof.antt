@@ -2,8 +2,8 @@
 use native.Mathlib.Omega.{arith}
 use borrow.Author.Tests.{le-leb, lt-leb}
 use Rattle.refusals.specs.Refusals.{unless}
-use Rattle.calendar.specs.Calendar.{yearAt, monthAt, monthHolding, dateAt, dateOf}
-use Rattle.calendar.proofs.Months.{month-28-to-31, holding-within, holding-from, holding-to}
+use Rattle.calendar_rules.specs.Calendar.{yearAt, monthAt, monthHolding, dateAt, dateOf}
+use Rattle.calendar_rules.proofs.Months.{month-28-to-31, holding-within, holding-from, holding-to}
 use borrow.Author.Needs.{needs}
 use Rattle.calendar.proofs.date.date_of.Statement.{statement}
 use Rattle.calendar.proofs.date.date_of.Tie as tie

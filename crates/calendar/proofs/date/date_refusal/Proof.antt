@@ -2,7 +2,7 @@
 use mathlib.Core.Path.{sym, _∙_}
 use borrow.Author.Needs.{needs}
 use borrow.Author.Tests.{not-true, not-false, le-leb, lt-leb}
-use Rattle.calendar.specs.Calendar.{dateRefusal, dateInRange, dayExists}
+use Rattle.calendar_rules.specs.Calendar.{dateRefusal, dateInRange, dayExists}
 use Rattle.calendar.proofs.date.date_refusal.Statement.{statement}
 use Rattle.calendar.proofs.date.date_refusal.Tie as tie
 

@@ -4,9 +4,9 @@ use native.Mathlib.Omega.{arith}
 use borrow.Author.Needs.{needs}
 use Rattle.refusals.specs.Refusals.{unless}
 use Rattle.refusals.proofs.Laws.{refuses}
-use Rattle.calendar.specs.Calendar.{dayNumber, dayOf, monthIndex}
-use Rattle.calendar.proofs.Months.{table-entry, start-bound}
-use Rattle.calendar.proofs.Dates.{good, index-within}
+use Rattle.calendar_rules.specs.Calendar.{dayNumber, dayOf, monthIndex}
+use Rattle.calendar_rules.proofs.Months.{table-entry, start-bound}
+use Rattle.calendar_rules.proofs.Dates.{good, index-within}
 use Rattle.calendar.proofs.date.day_number.Statement.{statement}
 use Rattle.calendar.proofs.date.day_number.Tie as tie
 

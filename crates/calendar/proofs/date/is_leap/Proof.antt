@@ -1,6 +1,6 @@
 -- `calendar::date::is_leap` meets its contract.
 use borrow.Author.Tests.{eq-eqb, ne-eqb}
-use Rattle.calendar.specs.Calendar.{isLeap}
+use Rattle.calendar_rules.specs.Calendar.{isLeap}
 use Rattle.calendar.proofs.date.is_leap.Statement.{statement}
 use Rattle.calendar.proofs.date.is_leap.Tie as tie
 

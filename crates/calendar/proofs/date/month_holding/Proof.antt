@@ -4,8 +4,8 @@ use mathlib.Core.Path.{_≡_, sym, _∙_, ap}
 use Prim.Native.Nat.{suc, _+_, _-_, _/_, _≤_, _<_}
 use native.Mathlib.Omega.{arith}
 use borrow.Author.Needs.{needs}
-use Rattle.calendar.specs.Calendar.{monthStart}
-use Rattle.calendar.proofs.Months.{start-first, start-end, start-bound, table-entry, holding}
+use Rattle.calendar_rules.specs.Calendar.{monthStart}
+use Rattle.calendar_rules.proofs.Months.{start-first, start-end, start-bound, table-entry, holding}
 use Rattle.calendar.proofs.date.month_holding.Statement.{statement}
 use Rattle.calendar.proofs.date.month_holding.Tie as tie
 

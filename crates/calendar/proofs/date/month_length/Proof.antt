@@ -3,7 +3,7 @@ use mathlib.Core.Path.{sym, _∙_}
 use mathlib.Core.Logic.{⊎-elim, inl, inr}
 use borrow.Author.Needs.{needs}
 use borrow.Author.Tests.{ne-eqb}
-use Rattle.calendar.specs.Calendar.{monthLength}
+use Rattle.calendar_rules.specs.Calendar.{monthLength}
 use Rattle.calendar.proofs.date.month_length.Statement.{statement}
 use Rattle.calendar.proofs.date.month_length.Tie as tie
 

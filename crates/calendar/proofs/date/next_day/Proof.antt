@@ -4,8 +4,8 @@ use borrow.Author.Needs.{needs}
 use borrow.Author.Tests.{lt-ltb, le-ltb}
 use Rattle.refusals.specs.Refusals.{unless}
 use Rattle.refusals.proofs.Laws.{refuses-first}
-use Rattle.calendar.specs.Calendar.{nextDay, dayAfter}
-use Rattle.calendar.proofs.Dates.{good, not-last-day, not-last-month, not-last-year, last-day}
+use Rattle.calendar_rules.specs.Calendar.{nextDay, dayAfter}
+use Rattle.calendar_rules.proofs.Dates.{good, not-last-day, not-last-month, not-last-year, last-day}
 use Rattle.calendar.proofs.date.next_day.Statement.{statement}
 use Rattle.calendar.proofs.date.next_day.Tie as tie
 

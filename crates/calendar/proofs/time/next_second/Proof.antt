@@ -2,8 +2,8 @@
 use mathlib.Core.Path.{sym, _∙_}
 use borrow.Author.Tests.{not-true, not-false, lt-ltb, le-ltb}
 use Rattle.refusals.specs.Refusals.{unless}
-use Rattle.calendar.specs.TimeOfDay.{timeRefusal, timeAfter, nextSecond}
-use Rattle.calendar.proofs.Times.{good-range, not-last-second, not-last-minute, not-last-hour, last-second}
+use Rattle.calendar_rules.specs.TimeOfDay.{timeRefusal, timeAfter, nextSecond}
+use Rattle.calendar_rules.proofs.Times.{good-range, not-last-second, not-last-minute, not-last-hour, last-second}
 use borrow.Author.Needs.{needs}
 use Rattle.calendar.proofs.time.next_second.Statement.{statement}
 use Rattle.calendar.proofs.time.next_second.Tie as tie

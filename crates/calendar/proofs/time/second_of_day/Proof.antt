@@ -2,7 +2,7 @@
 use mathlib.Core.Path.{sym, _∙_}
 use borrow.Author.Tests.{not-true, not-false}
 use Rattle.refusals.specs.Refusals.{unless}
-use Rattle.calendar.specs.TimeOfDay.{timeRefusal, secondsOf, secondOfDay}
+use Rattle.calendar_rules.specs.TimeOfDay.{timeRefusal, secondsOf, secondOfDay}
 use borrow.Author.Needs.{needs}
 use Rattle.calendar.proofs.time.second_of_day.Statement.{statement}
 use Rattle.calendar.proofs.time.second_of_day.Tie as tie

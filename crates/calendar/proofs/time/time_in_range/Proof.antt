@@ -2,7 +2,7 @@
 use mathlib.Core.Path.{sym, _∙_}
 use borrow.Author.Needs.{needs}
 use borrow.Author.Tests.{not-true, not-false}
-use Rattle.calendar.specs.TimeOfDay.{timeInRange}
+use Rattle.calendar_rules.specs.TimeOfDay.{timeInRange}
 use Rattle.calendar.proofs.time.time_in_range.Statement.{statement}
 use Rattle.calendar.proofs.time.time_in_range.Tie as tie
 

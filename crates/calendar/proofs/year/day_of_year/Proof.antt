@@ -4,11 +4,11 @@ use native.Mathlib.Omega.{arith}
 use borrow.Author.Needs.{needs}
 use Rattle.refusals.specs.Refusals.{done}
 use Rattle.refusals.proofs.Laws.{refuses, was-refused, refused-some}
-use Rattle.calendar.specs.Answers.{dayAnswer}
-use Rattle.calendar.specs.Calendar.{dayNumber}
-use Rattle.calendar.specs.DayOfYear.{dayOfYear}
-use Rattle.calendar.proofs.Months.{table-entry}
-use Rattle.calendar.proofs.Years.{january, january-within, numbered, from-first, year-day-bounds, has-year-day}
+use Rattle.calendar_rules.specs.Answers.{dayAnswer}
+use Rattle.calendar_rules.specs.Calendar.{dayNumber}
+use Rattle.calendar_rules.specs.DayOfYear.{dayOfYear}
+use Rattle.calendar_rules.proofs.Months.{table-entry}
+use Rattle.calendar_rules.proofs.Years.{january, january-within, numbered, from-first, year-day-bounds, has-year-day}
 use Rattle.calendar.proofs.year.day_of_year.Statement.{statement}
 use Rattle.calendar.proofs.year.day_of_year.Tie as tie
 

@@ -1,6 +1,6 @@
 -- `clock::Clock::step` meets its contract: each way it ends is a law of the definition.
 use mathlib.Core.Path.{sym, ap, _∙_}
-use Rattle.record.specs.Answers.{recordAnswer}
+use Rattle.record_rules.specs.Answers.{recordAnswer}
 use Rattle.clock.proofs.StepLaws.{second-refused, no-date, goes-on}
 use borrow.Author.Needs.{needs}
 use Rattle.clock.proofs.Clock.step.Statement.{statement}

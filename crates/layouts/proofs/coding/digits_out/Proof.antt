@@ -1,8 +1,8 @@
 -- `layouts::coding::digits_out` meets its contract.
 use mathlib.Core.Path.{sym, ap}
 use native.Mathlib.Omega.{arith}
-use Rattle.layouts.specs.Coding.{digitsOut}
-use Rattle.layouts.proofs.Bits.{century-small}
+use Rattle.layouts_rules.specs.Coding.{digitsOut}
+use Rattle.layouts_rules.proofs.Bits.{century-small}
 use borrow.Author.Needs.{needs}
 use Rattle.layouts.proofs.coding.digits_out.Statement.{statement}
 use Rattle.layouts.proofs.coding.digits_out.Tie as tie

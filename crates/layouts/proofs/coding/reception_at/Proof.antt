@@ -1,5 +1,5 @@
 -- `layouts::coding::reception_at` meets its contract.
-use Rattle.layouts.proofs.Bits.{reception-high}
+use Rattle.layouts_rules.proofs.Bits.{reception-high}
 use borrow.Author.Needs.{needs}
 use Rattle.layouts.proofs.coding.reception_at.Statement.{statement}
 use Rattle.layouts.proofs.coding.reception_at.Tie as tie

@@ -1,6 +1,6 @@
 -- `layouts::coding::record_in` meets its contract.
 use mathlib.Core.Path.{sym, ap}
-use Rattle.layouts.specs.Coding.{recordIn}
+use Rattle.layouts_rules.specs.Coding.{recordIn}
 use borrow.Author.Needs.{needs}
 use Rattle.layouts.proofs.coding.record_in.Statement.{statement}
 use Rattle.layouts.proofs.coding.record_in.Tie as tie

@@ -1,6 +1,6 @@
 -- `layouts::coding::status_in_5500` meets its contract.
 use borrow.Author.Tests.{eq-eqb, ne-eqb}
-use Rattle.layouts.specs.Coding.{statusIn5500}
+use Rattle.layouts_rules.specs.Coding.{statusIn5500}
 use Rattle.layouts.proofs.coding.status_in_5500.Statement.{statement}
 use Rattle.layouts.proofs.coding.status_in_5500.Tie as tie
 

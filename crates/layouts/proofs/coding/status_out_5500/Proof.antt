@@ -1,5 +1,5 @@
 -- `layouts::coding::status_out_5500` meets its contract.
-use Rattle.layouts.specs.Coding.{statusOut5500}
+use Rattle.layouts_rules.specs.Coding.{statusOut5500}
 use borrow.Author.Needs.{needs}
 use Rattle.layouts.proofs.coding.status_out_5500.Statement.{statement}
 use Rattle.layouts.proofs.coding.status_out_5500.Tie as tie

@@ -1,5 +1,5 @@
 -- `layouts::coding::status_out_6021` meets its contract.
-use Rattle.layouts.specs.Coding.{statusOut6021}
+use Rattle.layouts_rules.specs.Coding.{statusOut6021}
 use borrow.Author.Needs.{needs}
 use Rattle.layouts.proofs.coding.status_out_6021.Statement.{statement}
 use Rattle.layouts.proofs.coding.status_out_6021.Tie as tie

@@ -1,6 +1,6 @@
 -- `layouts::coding::year_in` meets its contract.
 use mathlib.Core.Path.{sym, _∙_, ap}
-use Rattle.layouts.specs.Coding.{fullYear}
+use Rattle.layouts_rules.specs.Coding.{fullYear}
 use borrow.Author.Needs.{needs}
 use Rattle.layouts.proofs.coding.year_in.Statement.{statement}
 use Rattle.layouts.proofs.coding.year_in.Tie as tie

@@ -2,7 +2,7 @@
 use mathlib.Core.Path.{ap}
 use borrow.Author.Tests.{ne-eqb}
 use Rattle.refusals.specs.Refusals.{done}
-use Rattle.layouts.specs.Layouts.{layoutOf}
+use Rattle.layouts_rules.specs.Layouts.{layoutOf}
 use borrow.Author.Needs.{needs}
 use Rattle.layouts.proofs.rows.layout_of.Statement.{statement}
 use Rattle.layouts.proofs.rows.layout_of.Tie as tie

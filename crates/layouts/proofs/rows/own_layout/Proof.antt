@@ -1,6 +1,6 @@
 -- `layouts::rows::own_layout` meets its contract.
 use mathlib.Core.Path.{sym, ap}
-use Rattle.layouts.specs.Layouts.{ownLayout}
+use Rattle.layouts_rules.specs.Layouts.{ownLayout}
 use borrow.Author.Needs.{needs}
 use Rattle.layouts.proofs.rows.own_layout.Statement.{statement}
 use Rattle.layouts.proofs.rows.own_layout.Tie as tie

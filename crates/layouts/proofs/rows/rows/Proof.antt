@@ -1,6 +1,6 @@
 -- `layouts::rows::rows` meets its contract: the rows are the table's, as antt computes them.
 use mathlib.Core.Path.{refl}
-use Rattle.layouts.specs.Layouts.{allRows, placesOf}
+use Rattle.layouts_rules.specs.Layouts.{allRows, placesOf}
 use Rattle.layouts.proofs.rows.rows.Statement.{statement}
 use Rattle.layouts.proofs.rows.rows.Tie as tie
 

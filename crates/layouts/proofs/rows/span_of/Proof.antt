@@ -1,7 +1,7 @@
 -- `layouts::rows::span_of` meets its contract.
 use mathlib.Core.Path.{sym, ap, _∙_}
-use Rattle.layouts.specs.declared.Layout.the-variants as layouts
-use Rattle.layouts.specs.Layouts.{placesOf, spanOf}
+use Rattle.layouts_rules.specs.declared.Layout.the-variants as layouts
+use Rattle.layouts_rules.specs.Layouts.{placesOf, spanOf}
 use borrow.Author.Needs.{needs}
 use Rattle.layouts.proofs.rows.span_of.Statement.{statement}
 use Rattle.layouts.proofs.rows.span_of.Tie as tie

@@ -1,6 +1,6 @@
 -- `leitch::coding::date_in` meets its contract.
 use mathlib.Core.Path.{_∙_, ap}
-use Rattle.layouts.specs.Coding.{fullYear}
+use Rattle.layouts_rules.specs.Coding.{fullYear}
 use borrow.Author.Needs.{needs}
 use Rattle.leitch.proofs.coding.date_in.Statement.{statement}
 use Rattle.leitch.proofs.coding.date_in.Tie as tie

@@ -1,7 +1,7 @@
 -- `leitch::coding::status_in` meets its contract: what the place shows, computed.
 use mathlib.Core.Path.{ap}
 use lib.ListN.{getD}
-use Rattle.places.specs.Places.{place, render, over}
+use Rattle.places_rules.specs.Places.{place, render, over}
 use borrow.Author.Needs.{needs}
 use Rattle.leitch.proofs.coding.status_in.Statement.{statement}
 use Rattle.leitch.proofs.coding.status_in.Tie as tie

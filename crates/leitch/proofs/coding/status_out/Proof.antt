@@ -1,7 +1,7 @@
 -- `leitch::coding::status_out` meets its contract: what the place finds, computed.
 use mathlib.Core.Path.{ap}
 use lib.ListN.{getD}
-use Rattle.places.specs.Places.{place, foundIn}
+use Rattle.places_rules.specs.Places.{place, foundIn}
 use borrow.Author.Needs.{needs}
 use Rattle.leitch.proofs.coding.status_out.Statement.{statement}
 use Rattle.leitch.proofs.coding.status_out.Tie as tie

@@ -1,6 +1,6 @@
 -- `leitch::read::read` meets its contract: each way it ends is a law of the definition.
 use mathlib.Core.Path.{sym, _∙_}
-use Rattle.leitch.proofs.ReadLaws.{ends-by-length, ends-in-row, ends-refused, ends-disagreeing, ends-good}
+use Rattle.leitch_rules.proofs.ReadLaws.{ends-by-length, ends-in-row, ends-refused, ends-disagreeing, ends-good}
 use borrow.Author.Needs.{needs}
 use Rattle.leitch.proofs.read.read.Statement.{statement}
 use Rattle.leitch.proofs.read.read.Tie as tie

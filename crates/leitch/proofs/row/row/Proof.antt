@@ -1,6 +1,6 @@
 -- `leitch::row::row` meets its contract: the row is the manual's, as antt computes it.
 use mathlib.Core.Path.{refl}
-use Rattle.leitch.specs.Row.{rowNumbers, replyRow}
+use Rattle.leitch_rules.specs.Row.{rowNumbers, replyRow}
 use Rattle.leitch.proofs.row.row.Statement.{statement}
 use Rattle.leitch.proofs.row.row.Tie as tie
 

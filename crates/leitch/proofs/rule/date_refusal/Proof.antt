@@ -2,9 +2,9 @@
 use mathlib.Core.Path.{sym, ap, _∙_}
 use borrow.Author.Tests.{eq-eqb, ne-eqb}
 use Rattle.refusals.proofs.Laws.{was-done, was-refused, refused-some, else-some}
-use Rattle.calendar.specs.Answers.{dayAnswer}
-use Rattle.calendar.specs.Calendar.{dayNumber, dayOf, dateRefusal, weekdayOf}
-use Rattle.leitch.specs.Rule.{weekdayAgrees}
+use Rattle.calendar_rules.specs.Answers.{dayAnswer}
+use Rattle.calendar_rules.specs.Calendar.{dayNumber, dayOf, dateRefusal, weekdayOf}
+use Rattle.leitch_rules.specs.Rule.{weekdayAgrees}
 use borrow.Author.Needs.{needs}
 use Rattle.leitch.proofs.rule.date_refusal.Statement.{statement}
 use Rattle.leitch.proofs.rule.date_refusal.Tie as tie

@@ -1,8 +1,8 @@
 -- `leitch::rule::day_refusal` meets its contract.
 use mathlib.Core.Path.{sym, ap, _∙_}
 use borrow.Author.Tests.{eq-eqb, ne-eqb}
-use Rattle.calendar.specs.Answers.{yearDayAnswer}
-use Rattle.leitch.specs.Rule.{dayAgrees, dayRefusal}
+use Rattle.calendar_rules.specs.Answers.{yearDayAnswer}
+use Rattle.leitch_rules.specs.Rule.{dayAgrees, dayRefusal}
 use borrow.Author.Needs.{needs}
 use Rattle.leitch.proofs.rule.day_refusal.Statement.{statement}
 use Rattle.leitch.proofs.rule.day_refusal.Tie as tie

@@ -2,8 +2,8 @@
 use mathlib.Core.Bool.{and-false}
 use mathlib.Core.Path.{sym, _∙_}
 use borrow.Author.Tests.{not-true, not-false, le-leb, lt-leb}
-use Rattle.leitch.specs.Rule.{weekdayListed, allInRange, fieldsRefusal}
-use Rattle.leitch.proofs.RuleLaws.{date-decides}
+use Rattle.leitch_rules.specs.Rule.{weekdayListed, allInRange, fieldsRefusal}
+use Rattle.leitch_rules.proofs.RuleLaws.{date-decides}
 use borrow.Author.Needs.{needs}
 use Rattle.leitch.proofs.rule.fields_refusal.Statement.{statement}
 use Rattle.leitch.proofs.rule.fields_refusal.Tie as tie

@@ -1,6 +1,6 @@
 -- `leitch::rule::status_listed` meets its contract.
 use mathlib.Core.Path.{sym, _∙_}
-use Rattle.leitch.specs.Rule.{statusListed}
+use Rattle.leitch_rules.specs.Rule.{statusListed}
 use borrow.Author.Needs.{needs}
 use Rattle.leitch.proofs.rule.status_listed.Statement.{statement}
 use Rattle.leitch.proofs.rule.status_listed.Tie as tie

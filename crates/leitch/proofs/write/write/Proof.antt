@@ -1,6 +1,6 @@
 -- `leitch::write::write` meets its contract: each way it ends is a law of the definition.
 use mathlib.Core.Path.{sym, _∙_}
-use Rattle.leitch.proofs.WriteLaws.{ends-refused, ends-short, ends-disagreeing, ends-written}
+use Rattle.leitch_rules.proofs.WriteLaws.{ends-refused, ends-short, ends-disagreeing, ends-written}
 use borrow.Author.Needs.{needs}
 use Rattle.leitch.proofs.write.write.Statement.{statement}
 use Rattle.leitch.proofs.write.write.Tie as tie

@@ -3,7 +3,7 @@ use mathlib.Core.Path.{_≡_, ap, sym, _∙_}
 use lib.ListN.{length, length-map}
 use borrow.Author.Tests.{not-true, not-false}
 use Rattle.line.specs.Readers.{feedReader}
-use Rattle.line.specs.Line.{places}
+use Rattle.line_rules.specs.Line.{places}
 use Rattle.line.proofs.ReaderLaws.{feed-refused, outside-back}
 use borrow.Author.Needs.{needs}
 use Rattle.line.proofs.Reader.feed.Statement.{statement}

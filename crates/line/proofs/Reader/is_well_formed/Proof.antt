@@ -3,7 +3,7 @@ use mathlib.Core.Path.{_≡_, sym, _∙_}
 use lib.ListN.{length, take, length-map}
 use borrow.Author.Tests.{le-leb, lt-leb, not-true, not-false}
 use Rattle.line.specs.Readers.{wellFormedAt}
-use Rattle.line.specs.Line.{places}
+use Rattle.line_rules.specs.Line.{places}
 use Rattle.line.proofs.Forms.{start-is, taken-length}
 use borrow.Author.Needs.{needs}
 use Rattle.line.proofs.Reader.is_well_formed.Statement.{statement}

@@ -4,9 +4,9 @@ use borrow.Author.Needs.{needs}
 use mathlib.Core.Path.{_≡_, refl, ap, _∙_, subst}
 use Prim.Native.Nat.{_+_, _-_, _≤_}
 use lib.ListN.{length, length-set, take, getD}
-use Rattle.telegram.specs.Reading.{readIn}
+use Rattle.telegram_rules.specs.Reading.{readIn}
 use Rattle.ascii.specs.Control.{etx}
-use Rattle.line.specs.Line.{places}
+use Rattle.line_rules.specs.Line.{places}
 use Rattle.lent_buffer.proofs.CopyLaws.{copy-step}
 use Rattle.line.proofs.Copies.{closed}
 use Rattle.line.proofs.judge.judge.Statement.{statement}

@@ -8,9 +8,9 @@ use lib.ListN.{length, drop, getD, set}
 use lib.Seq.{paste, paste-zero, paste-suc}
 use borrow.Author.Tests.{not-true, not-false}
 use native.Mathlib.Numerals.{add-one}
-use Rattle.line.specs.Runs.{roomyRun}
-use Rattle.line.specs.Line.{places}
-use Rattle.line.proofs.RunLaws.{run-byte, run-over}
+use Rattle.line_rules.specs.Runs.{roomyRun}
+use Rattle.line_rules.specs.Line.{places}
+use Rattle.line_rules.proofs.RunLaws.{run-byte, run-over}
 use Rattle.line.proofs.runs.gather.Statement.{statement}
 use Rattle.line.proofs.runs.gather.Tie as tie
 

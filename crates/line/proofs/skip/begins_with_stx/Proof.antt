@@ -1,7 +1,7 @@
 -- `line::skip::begins_with_stx` meets its contract.
 use mathlib.Core.Path.{sym}
 use borrow.Author.Needs.{needs}
-use Rattle.line.proofs.RunLaws.{begins-empty, begins-byte}
+use Rattle.line_rules.proofs.RunLaws.{begins-empty, begins-byte}
 use Rattle.line.proofs.skip.begins_with_stx.Statement.{statement}
 use Rattle.line.proofs.skip.begins_with_stx.Tie as tie
 

@@ -4,8 +4,8 @@ use mathlib.Core.Path.{_≡_, refl, ap, sym, _∙_}
 use mathlib.Core.Bool.{_||_, or-assoc, or-false}
 use Prim.Native.Nat.{_-_}
 use lib.ListN.{drop}
-use Rattle.line.specs.Runs.{hasStx}
-use Rattle.line.proofs.RunLaws.{stx-end, stx-byte}
+use Rattle.line_rules.specs.Runs.{hasStx}
+use Rattle.line_rules.proofs.RunLaws.{stx-end, stx-byte}
 use Rattle.line.proofs.skip.has_stx.Statement.{statement}
 use Rattle.line.proofs.skip.has_stx.Tie as tie
 

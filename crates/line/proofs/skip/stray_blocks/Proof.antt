@@ -4,8 +4,8 @@ use mathlib.Core.Path.{_≡_, sym, _∙_}
 use Prim.Native.Nat.{_+_, _-_, _≤_}
 use lib.ListN.{drop}
 use borrow.Author.Needs.{needs}
-use Rattle.line.specs.Runs.{strayRun}
-use Rattle.line.proofs.RunLaws.{stray-block}
+use Rattle.line_rules.specs.Runs.{strayRun}
+use Rattle.line_rules.proofs.RunLaws.{stray-block}
 use Rattle.line.proofs.skip.stray_blocks.Statement.{statement}
 use Rattle.line.proofs.skip.stray_blocks.Tie as tie
 

@@ -5,8 +5,8 @@ use mathlib.Core.Bool.{cond}
 use Prim.Native.Nat.{suc, _+_, _-_}
 use lib.ListN.{length, drop}
 use borrow.Author.Tests.{eq-eqb, ne-eqb}
-use Rattle.line.specs.Runs.{strayRun}
-use Rattle.line.proofs.RunLaws.{stray-end, stray-byte}
+use Rattle.line_rules.specs.Runs.{strayRun}
+use Rattle.line_rules.proofs.RunLaws.{stray-end, stray-byte}
 use Rattle.line.proofs.skip.stray_bytes.Statement.{statement}
 use Rattle.line.proofs.skip.stray_bytes.Tie as tie
 

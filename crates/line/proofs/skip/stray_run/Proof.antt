@@ -6,8 +6,8 @@ use Prim.Native.Nat.{ℕ, _+_, _-_, _≤_}
 use lib.ListN.{length, take, drop, length-drop}
 use lib.Seq.{take-all}
 use borrow.Author.Needs.{needs}
-use Rattle.line.specs.Runs.{strayRun}
-use Rattle.line.proofs.RunLaws.{stray-ends}
+use Rattle.line_rules.specs.Runs.{strayRun}
+use Rattle.line_rules.proofs.RunLaws.{stray-ends}
 use Rattle.line.proofs.skip.stray_run.Statement.{statement}
 use Rattle.line.proofs.skip.stray_run.Tie as tie
 

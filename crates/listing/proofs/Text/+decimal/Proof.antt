@@ -6,7 +6,7 @@ use borrow.Fn.Kinds.{In}
 use borrow.Fn.PlainCycle.{Measures, is, falls, and}
 use Rattle.listing.specs.Texts.{appended}
 use Rattle.listing.proofs.TextLaws.{behind, as-byte}
-use Rattle.listing.proofs.DecimalLaws.{decimal-last, decimal-more}
+use Rattle.listing_rules.proofs.DecimalLaws.{decimal-last, decimal-more}
 use Rattle.listing.proofs.Text.decimal.Reads as decimal
 use Rattle.listing.proofs.Text.decimal.Kinds as decimal-kinds
 use Rattle.listing.proofs.Text.+decimal.Lts-decimal as decimal-lts

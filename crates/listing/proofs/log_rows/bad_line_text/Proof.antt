@@ -1,5 +1,5 @@
 -- `listing::log_rows::bad_line_text` meets its contract.
-use Rattle.listing.specs.LogRows.{badCount}
+use Rattle.listing_rules.specs.LogRows.{badCount}
 use Rattle.listing.proofs.TextLaws.{behind, from-empty}
 use borrow.Author.Needs.{needs}
 use Rattle.listing.proofs.log_rows.bad_line_text.Statement.{statement}

@@ -1,7 +1,7 @@
 -- `listing::log_rows::block_row` meets its contract.
 use native.Mathlib.Omega.{arith}
 use Rattle.listing.proofs.TextLaws.{small-enough, row-laid}
-use Rattle.listing.proofs.RowLaws.{refused-short}
+use Rattle.listing_rules.proofs.RowLaws.{refused-short}
 use borrow.Author.Needs.{needs}
 use Rattle.listing.proofs.log_rows.block_row.Statement.{statement}
 use Rattle.listing.proofs.log_rows.block_row.Tie as tie

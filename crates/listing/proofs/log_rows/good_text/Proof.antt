@@ -1,5 +1,5 @@
 -- `listing::log_rows::good_text` meets its contract.
-use Rattle.listing.specs.LogRows.{goodRow}
+use Rattle.listing_rules.specs.LogRows.{goodRow}
 use Rattle.listing.proofs.TextLaws.{behind}
 use borrow.Author.Needs.{needs}
 use Rattle.listing.proofs.log_rows.good_text.Statement.{statement}

@@ -1,7 +1,7 @@
 -- `listing::log_rows::header` meets its contract.
 use native.Mathlib.Omega.{arith}
 use Rattle.listing.proofs.TextLaws.{small-enough, row-laid}
-use Rattle.listing.proofs.LogRowLaws.{log-header-short}
+use Rattle.listing_rules.proofs.LogRowLaws.{log-header-short}
 use borrow.Author.Needs.{needs}
 use Rattle.listing.proofs.log_rows.header.Statement.{statement}
 use Rattle.listing.proofs.log_rows.header.Tie as tie

@@ -1,5 +1,5 @@
 -- `listing::log_rows::header_text` meets its contract.
-use Rattle.listing.specs.LogRows.{logHeader}
+use Rattle.listing_rules.specs.LogRows.{logHeader}
 use Rattle.listing.proofs.TextLaws.{from-empty}
 use borrow.Author.Needs.{needs}
 use Rattle.listing.proofs.log_rows.header_text.Statement.{statement}

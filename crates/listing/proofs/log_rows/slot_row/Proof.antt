@@ -2,10 +2,10 @@
 use mathlib.Core.Path.{ap, _∙_}
 use native.Mathlib.Omega.{arith}
 use Rattle.lent_buffer.specs.Laying.{laid}
-use Rattle.listing.specs.LogRows.{slotRow}
+use Rattle.listing_rules.specs.LogRows.{slotRow}
 use Rattle.listing.proofs.TextLaws.{small-enough, row-laid}
-use Rattle.listing.proofs.RowLaws.{rule-refuses, rule-passes}
-use Rattle.listing.proofs.LogRowLaws.{slot-short}
+use Rattle.listing_rules.proofs.RowLaws.{rule-refuses, rule-passes}
+use Rattle.listing_rules.proofs.LogRowLaws.{slot-short}
 use borrow.Author.Needs.{needs}
 use Rattle.listing.proofs.log_rows.slot_row.Statement.{statement}
 use Rattle.listing.proofs.log_rows.slot_row.Tie as tie

@@ -1,7 +1,7 @@
 -- `listing::log_rows::tail_row` meets its contract.
 use native.Mathlib.Omega.{arith}
 use Rattle.listing.proofs.TextLaws.{small-enough, row-laid}
-use Rattle.listing.proofs.LogRowLaws.{tail-short}
+use Rattle.listing_rules.proofs.LogRowLaws.{tail-short}
 use borrow.Author.Needs.{needs}
 use Rattle.listing.proofs.log_rows.tail_row.Statement.{statement}
 use Rattle.listing.proofs.log_rows.tail_row.Tie as tie

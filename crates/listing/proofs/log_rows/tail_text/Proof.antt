@@ -1,5 +1,5 @@
 -- `listing::log_rows::tail_text` meets its contract.
-use Rattle.listing.specs.LogRows.{tailRow}
+use Rattle.listing_rules.specs.LogRows.{tailRow}
 use Rattle.listing.proofs.TextLaws.{behind}
 use borrow.Author.Needs.{needs}
 use Rattle.listing.proofs.log_rows.tail_text.Statement.{statement}

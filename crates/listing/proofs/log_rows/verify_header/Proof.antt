@@ -1,7 +1,7 @@
 -- `listing::log_rows::verify_header` meets its contract.
 use native.Mathlib.Omega.{arith}
 use Rattle.listing.proofs.TextLaws.{small-enough, row-laid}
-use Rattle.listing.proofs.LogRowLaws.{verify-header-short}
+use Rattle.listing_rules.proofs.LogRowLaws.{verify-header-short}
 use borrow.Author.Needs.{needs}
 use Rattle.listing.proofs.log_rows.verify_header.Statement.{statement}
 use Rattle.listing.proofs.log_rows.verify_header.Tie as tie

@@ -1,5 +1,5 @@
 -- `listing::rows::dated_columns` meets its contract.
-use Rattle.listing.specs.Listing.{datedColumns}
+use Rattle.listing_rules.specs.Listing.{datedColumns}
 use Rattle.listing.proofs.TextLaws.{behind, as-byte}
 use borrow.Author.Needs.{needs}
 use Rattle.listing.proofs.rows.dated_columns.Statement.{statement}

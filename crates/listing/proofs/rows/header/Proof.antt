@@ -1,7 +1,7 @@
 -- `listing::rows::header` meets its contract.
 use native.Mathlib.Omega.{arith}
 use Rattle.listing.proofs.TextLaws.{small-enough, row-laid}
-use Rattle.listing.proofs.RowLaws.{header-short}
+use Rattle.listing_rules.proofs.RowLaws.{header-short}
 use borrow.Author.Needs.{needs}
 use Rattle.listing.proofs.rows.header.Statement.{statement}
 use Rattle.listing.proofs.rows.header.Tie as tie

@@ -1,5 +1,5 @@
 -- `listing::rows::header_row` meets its contract.
-use Rattle.listing.specs.Listing.{headerRow}
+use Rattle.listing_rules.specs.Listing.{headerRow}
 use Rattle.listing.proofs.TextLaws.{from-empty}
 use borrow.Author.Needs.{needs}
 use Rattle.listing.proofs.rows.header_row.Statement.{statement}

@@ -1,5 +1,5 @@
 -- `listing::rows::record_row` meets its contract.
-use Rattle.listing.specs.Listing.{recordRow}
+use Rattle.listing_rules.specs.Listing.{recordRow}
 use Rattle.listing.proofs.TextLaws.{behind, from-empty}
 use borrow.Author.Needs.{needs}
 use Rattle.listing.proofs.rows.record_row.Statement.{statement}

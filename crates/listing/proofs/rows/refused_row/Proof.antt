@@ -1,6 +1,6 @@
 -- `listing::rows::refused_row` meets its contract.
 use Rattle.listing.proofs.TextLaws.{behind, from-empty}
-use Rattle.listing.specs.Listing.{refusedRow}
+use Rattle.listing_rules.specs.Listing.{refusedRow}
 use borrow.Author.Needs.{needs}
 use Rattle.listing.proofs.rows.refused_row.Statement.{statement}
 use Rattle.listing.proofs.rows.refused_row.Tie as tie

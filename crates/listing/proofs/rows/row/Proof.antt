@@ -2,9 +2,9 @@
 use mathlib.Core.Path.{ap, _∙_}
 use native.Mathlib.Omega.{arith}
 use Rattle.lent_buffer.specs.Laying.{laid}
-use Rattle.listing.specs.Listing.{recordRow, eventRow}
+use Rattle.listing_rules.specs.Listing.{recordRow, eventRow}
 use Rattle.listing.proofs.TextLaws.{small-enough, row-laid}
-use Rattle.listing.proofs.RowLaws.{rule-refuses, rule-passes, record-short, refused-short}
+use Rattle.listing_rules.proofs.RowLaws.{rule-refuses, rule-passes, record-short, refused-short}
 use borrow.Author.Needs.{needs}
 use Rattle.listing.proofs.rows.row.Statement.{statement}
 use Rattle.listing.proofs.rows.row.Tie as tie

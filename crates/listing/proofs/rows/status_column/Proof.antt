@@ -1,6 +1,6 @@
 -- `listing::rows::status_column` meets its contract.
 use Rattle.listing.proofs.TextLaws.{behind}
-use Rattle.listing.specs.Listing.{statusColumn}
+use Rattle.listing_rules.specs.Listing.{statusColumn}
 use borrow.Author.Needs.{needs}
 use Rattle.listing.proofs.rows.status_column.Statement.{statement}
 use Rattle.listing.proofs.rows.status_column.Tie as tie

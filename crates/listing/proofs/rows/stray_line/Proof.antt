@@ -1,6 +1,6 @@
 -- `listing::rows::stray_line` meets its contract.
 use Rattle.listing.proofs.TextLaws.{small-enough, row-laid}
-use Rattle.listing.proofs.RowLaws.{stray-short}
+use Rattle.listing_rules.proofs.RowLaws.{stray-short}
 use native.Mathlib.Omega.{arith}
 use borrow.Author.Needs.{needs}
 use Rattle.listing.proofs.rows.stray_line.Statement.{statement}

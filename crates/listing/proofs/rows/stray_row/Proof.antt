@@ -1,5 +1,5 @@
 -- `listing::rows::stray_row` meets its contract.
-use Rattle.listing.specs.Listing.{strayRow}
+use Rattle.listing_rules.specs.Listing.{strayRow}
 use Rattle.listing.proofs.TextLaws.{behind, from-empty}
 use borrow.Author.Needs.{needs}
 use Rattle.listing.proofs.rows.stray_row.Statement.{statement}

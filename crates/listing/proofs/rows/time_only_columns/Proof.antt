@@ -1,5 +1,5 @@
 -- `listing::rows::time_only_columns` meets its contract.
-use Rattle.listing.specs.Listing.{timeOnlyColumns}
+use Rattle.listing_rules.specs.Listing.{timeOnlyColumns}
 use Rattle.listing.proofs.TextLaws.{behind}
 use borrow.Author.Needs.{needs}
 use Rattle.listing.proofs.rows.time_only_columns.Statement.{statement}

@@ -2,9 +2,9 @@
 use mathlib.Core.Path.{_≡_, ap, ap₂, sym, _∙_}
 use mathlib.Core.Bool.{true}
 use borrow.Author.Needs.{needs}
-use Rattle.record.specs.Answers.{recordAnswer}
-use Rattle.log.specs.Good.{isDone, readsWell}
-use Rattle.log.proofs.AddLaws.{add-is, own-refusal, reads-place}
+use Rattle.record_rules.specs.Answers.{recordAnswer}
+use Rattle.log_rules.specs.Good.{isDone, readsWell}
+use Rattle.log_rules.proofs.AddLaws.{add-is, own-refusal, reads-place}
 use Rattle.log.proofs.add.add.Statement.{statement}
 use Rattle.log.proofs.add.add.Tie as tie
 

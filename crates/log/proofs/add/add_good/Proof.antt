@@ -5,10 +5,10 @@ use native.Mathlib.Omega.{arith}
 use lib.ListN.{length}
 use borrow.Author.Needs.{needs}
 use Rattle.refusals.specs.Refusals.{done}
-use Rattle.log.specs.Block.{blockSize}
-use Rattle.log.specs.Add.{placeIn, regionAfter}
-use Rattle.log.specs.Answers.{addAnswer}
-use Rattle.log.proofs.PutLaws.{lent-fits, lent-good, lent-count, lent-free, put-back}
+use Rattle.log_rules.specs.Block.{blockSize}
+use Rattle.log_rules.specs.Add.{placeIn, regionAfter}
+use Rattle.log_rules.specs.Answers.{addAnswer}
+use Rattle.log_rules.proofs.PutLaws.{lent-fits, lent-good, lent-count, lent-free, put-back}
 use Rattle.log.proofs.add.add_good.Statement.{statement}
 use Rattle.log.proofs.add.add_good.Tie as tie
 

@@ -6,12 +6,12 @@ use native.Mathlib.Omega.{arith}
 use lib.ListN.{length, take, drop, set, length-set, length-take, length-drop}
 use borrow.Author.Needs.{needs}
 use borrow.Rule.Slice.PartMut.{putMid}
-use Rattle.log.specs.Block.{slots, slotSize, countPlace, checkPlace, blockSize, sealed}
-use Rattle.log.specs.Good.{countIn}
-use Rattle.log.specs.Add.{entered}
-use Rattle.log.proofs.BlockLaws.{reads-short, good-length}
-use Rattle.log.proofs.EnterLaws.{entered-length}
-use Rattle.log.proofs.LayLaws.{back-length, sealed-again}
+use Rattle.log_rules.specs.Block.{slots, slotSize, countPlace, checkPlace, blockSize, sealed}
+use Rattle.log_rules.specs.Good.{countIn}
+use Rattle.log_rules.specs.Add.{entered}
+use Rattle.log_rules.proofs.BlockLaws.{reads-short, good-length}
+use Rattle.log_rules.proofs.EnterLaws.{entered-length}
+use Rattle.log_rules.proofs.LayLaws.{back-length, sealed-again}
 use Rattle.log.proofs.add.enter.Statement.{statement}
 use Rattle.log.proofs.add.enter.Tie as tie
 

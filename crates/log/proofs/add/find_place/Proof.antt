@@ -4,12 +4,12 @@ use mathlib.Core.Path.{_≡_, sym, _∙_}
 use Prim.Native.Nat.{_*_, _-_}
 use lib.ListN.{drop}
 use borrow.Author.Tests.{eq-eqb, ne-eqb}
-use Rattle.log.specs.Block.{blockSize}
-use Rattle.log.specs.Region.{blocksFrom}
-use Rattle.log.specs.Add.{placeIn}
-use Rattle.log.specs.Answers.{addAnswer}
-use Rattle.log.specs.Tests.{placeThen}
-use Rattle.log.proofs.PlaceLaws.{place-broken, search-starts, search-turn, search-ends}
+use Rattle.log_rules.specs.Block.{blockSize}
+use Rattle.log_rules.specs.Region.{blocksFrom}
+use Rattle.log_rules.specs.Add.{placeIn}
+use Rattle.log_rules.specs.Answers.{addAnswer}
+use Rattle.log_rules.specs.Tests.{placeThen}
+use Rattle.log_rules.proofs.PlaceLaws.{place-broken, search-starts, search-turn, search-ends}
 use Rattle.log.proofs.add.find_place.Statement.{statement}
 use Rattle.log.proofs.add.find_place.Tie as tie
 

@@ -4,7 +4,7 @@ use Prim.Native.Nat.{_+_, _-_, _≤_, _<_}
 use native.Mathlib.Omega.{arith}
 use lib.ListN.{length, getD, set, length-set}
 use lib.Seq.{paste, paste-zero}
-use Rattle.log.proofs.LayLaws.{paste-next, slot-laid}
+use Rattle.log_rules.proofs.LayLaws.{paste-next, slot-laid}
 use Rattle.log.proofs.add.lay.Statement.{statement}
 use Rattle.log.proofs.add.lay.Tie as tie
 

@@ -3,7 +3,7 @@ use native.Mathlib.Omega.{arith}
 use mathlib.Core.Path.{sym, _∙_}
 use borrow.Author.Needs.{needs}
 use borrow.Author.Tests.{lt-ltb, le-ltb, eq-eqb, ne-eqb, not-true, not-false}
-use Rattle.log.proofs.BlockLaws.{good-length}
+use Rattle.log_rules.proofs.BlockLaws.{good-length}
 use Rattle.log.proofs.add.place_with.Statement.{statement}
 use Rattle.log.proofs.add.place_with.Tie as tie
 

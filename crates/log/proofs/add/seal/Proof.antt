@@ -4,8 +4,8 @@ use native.Mathlib.Omega.{arith}
 use lib.ListN.{take}
 use lib.Seq.{length-take-le}
 use borrow.Author.Needs.{needs}
-use Rattle.log.specs.Block.{checkPlace}
-use Rattle.log.proofs.SealLaws.{check-small, laid}
+use Rattle.log_rules.specs.Block.{checkPlace}
+use Rattle.log_rules.proofs.SealLaws.{check-small, laid}
 use Rattle.log.proofs.add.seal.Statement.{statement}
 use Rattle.log.proofs.add.seal.Tie as tie
 

@@ -3,8 +3,8 @@ use mathlib.Core.Path.{sym}
 use native.Mathlib.Omega.{arith}
 use lib.Seq.{length-take-le}
 use borrow.Author.Needs.{needs}
-use Rattle.log.specs.Block.{checkPlace}
-use Rattle.log.proofs.SealLaws.{other-low, same-low}
+use Rattle.log_rules.specs.Block.{checkPlace}
+use Rattle.log_rules.proofs.SealLaws.{other-low, same-low}
 use Rattle.log.proofs.block.check_fits.Statement.{statement}
 use Rattle.log.proofs.block.check_fits.Tie as tie
 

@@ -4,9 +4,9 @@ use mathlib.Core.Bool.{_&&_}
 use native.Mathlib.Omega.{arith}
 use borrow.Author.Needs.{needs}
 use borrow.Author.Tests.{not-true, not-false}
-use Rattle.log.specs.Good.{countIn, isGood}
-use Rattle.log.specs.Tests.{slotsFit, checkFits}
-use Rattle.log.proofs.TestLaws.{zerosToCount, zerosToCheck, by-parts, bad-size, bad-count}
+use Rattle.log_rules.specs.Good.{countIn, isGood}
+use Rattle.log_rules.specs.Tests.{slotsFit, checkFits}
+use Rattle.log_rules.proofs.TestLaws.{zerosToCount, zerosToCheck, by-parts, bad-size, bad-count}
 use Rattle.log.proofs.block.is_good.Statement.{statement}
 use Rattle.log.proofs.block.is_good.Tie as tie
 

@@ -4,8 +4,8 @@ use mathlib.Core.Path.{_≡_, refl, sym, _∙_}
 use Prim.Native.Nat.{_-_}
 use lib.ListN.{drop}
 use borrow.Author.Tests.{eq-eqb, ne-eqb}
-use Rattle.log.specs.Tests.{allZero}
-use Rattle.log.proofs.SameLaws.{zero-turn, zero-end}
+use Rattle.log_rules.specs.Tests.{allZero}
+use Rattle.log_rules.proofs.SameLaws.{zero-turn, zero-end}
 use Rattle.log.proofs.block.is_zero.Statement.{statement}
 use Rattle.log.proofs.block.is_zero.Tie as tie
 

@@ -1,8 +1,8 @@
 -- `log::block::reads_well` meets its contract.
 use mathlib.Core.Path.{ap, sym, _∙_}
 use borrow.Author.Needs.{needs}
-use Rattle.record.specs.Answers.{recordAnswer}
-use Rattle.log.specs.Good.{isDone, readsWell}
+use Rattle.record_rules.specs.Answers.{recordAnswer}
+use Rattle.log_rules.specs.Good.{isDone, readsWell}
 use Rattle.log.proofs.block.reads_well.Statement.{statement}
 use Rattle.log.proofs.block.reads_well.Tie as tie
 

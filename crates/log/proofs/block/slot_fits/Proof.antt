@@ -3,7 +3,7 @@ use mathlib.Core.Path.{sym, _∙_}
 use native.Mathlib.Omega.{arith}
 use borrow.Author.Needs.{needs}
 use borrow.Author.Tests.{not-true, not-false}
-use Rattle.log.proofs.SlotLaws.{other-size, long-telegram, by-size}
+use Rattle.log_rules.proofs.SlotLaws.{other-size, long-telegram, by-size}
 use Rattle.log.proofs.block.slot_fits.Statement.{statement}
 use Rattle.log.proofs.block.slot_fits.Tie as tie
 

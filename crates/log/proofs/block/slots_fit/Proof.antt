@@ -6,9 +6,9 @@ use native.Mathlib.Omega.{arith}
 use lib.ListN.{drop}
 use borrow.Author.Needs.{needs}
 use borrow.Author.Tests.{not-true, not-false}
-use Rattle.log.specs.Block.{slotSize}
-use Rattle.log.specs.Tests.{slotsFit}
-use Rattle.log.proofs.SlotLaws.{slots-turn, slots-end}
+use Rattle.log_rules.specs.Block.{slotSize}
+use Rattle.log_rules.specs.Tests.{slotsFit}
+use Rattle.log_rules.proofs.SlotLaws.{slots-turn, slots-end}
 use Rattle.log.proofs.block.slots_fit.Statement.{statement}
 use Rattle.log.proofs.block.slots_fit.Tie as tie
 

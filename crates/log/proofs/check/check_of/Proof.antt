@@ -4,9 +4,9 @@ use Prim.Native.Nat.{_+_, _*_, _-_, _%_, _≤_}
 use native.Mathlib.Omega.{arith}
 use lib.ListN.{length, take, getD}
 use lib.Seq.{take-all}
-use Rattle.log.specs.Check.{weighed, modulus, checkOf}
-use Rattle.log.specs.Block.{checkPlace}
-use Rattle.log.proofs.CheckLaws.{weighed-next, weight-small}
+use Rattle.log_rules.specs.Check.{weighed, modulus, checkOf}
+use Rattle.log_rules.specs.Block.{checkPlace}
+use Rattle.log_rules.proofs.CheckLaws.{weighed-next, weight-small}
 use Rattle.log.proofs.check.check_of.Statement.{statement}
 use Rattle.log.proofs.check.check_of.Tie as tie
 

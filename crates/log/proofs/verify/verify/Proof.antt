@@ -3,11 +3,11 @@ use native.Mathlib.Omega.{arith}
 use mathlib.Core.Path.{_≡_, sym, _∙_}
 use Prim.Native.Nat.{_*_, _-_}
 use lib.ListN.{drop}
-use Rattle.log.specs.Block.{blockSize}
-use Rattle.log.specs.Region.{blocksFrom}
-use Rattle.log.specs.Verify.{firstBad, verifyOf}
+use Rattle.log_rules.specs.Block.{blockSize}
+use Rattle.log_rules.specs.Region.{blocksFrom}
+use Rattle.log_rules.specs.Verify.{firstBad, verifyOf}
 use borrow.Author.Tests.{eq-eqb, ne-eqb, not-true, not-false}
-use Rattle.log.proofs.VerifyLaws.{verify-broken, verify-starts, verify-turn, verify-ends}
+use Rattle.log_rules.proofs.VerifyLaws.{verify-broken, verify-starts, verify-turn, verify-ends}
 use Rattle.log.proofs.verify.verify.Statement.{statement}
 use Rattle.log.proofs.verify.verify.Tie as tie
 

@@ -2,10 +2,10 @@
 use mathlib.Core.Path.{sym, ap, _∙_}
 use mathlib.Core.Bool.{true, false}
 use Rattle.refusals.proofs.Laws.{refuses-first}
-use Rattle.calendar.specs.Answers.{dateAnswer, nextSecondAnswer}
-use Rattle.record.specs.Next.{nextSecondOf}
-use Rattle.record.proofs.RuleLaws.{good, good-up-to-59, alone-up-to-59}
-use Rattle.record.proofs.NextLaws.{same-day, next-day, calendar-ends, time-goes-on, goes-on}
+use Rattle.calendar_rules.specs.Answers.{dateAnswer, nextSecondAnswer}
+use Rattle.record_rules.specs.Next.{nextSecondOf}
+use Rattle.record_rules.proofs.RuleLaws.{good, good-up-to-59, alone-up-to-59}
+use Rattle.record_rules.proofs.NextLaws.{same-day, next-day, calendar-ends, time-goes-on, goes-on}
 use borrow.Author.Needs.{needs}
 use Rattle.record.proofs.next.next_second.Statement.{statement}
 use Rattle.record.proofs.next.next_second.Tie as tie

@@ -1,6 +1,6 @@
 -- `record::next::next_time` meets its contract.
 use mathlib.Core.Path.{ap, _∙_}
-use Rattle.calendar.specs.TimeOfDay.{nextSecond}
+use Rattle.calendar_rules.specs.TimeOfDay.{nextSecond}
 use borrow.Author.Needs.{needs}
 use Rattle.record.proofs.next.next_time.Statement.{statement}
 use Rattle.record.proofs.next.next_time.Tie as tie

@@ -2,10 +2,10 @@
 use mathlib.Core.Path.{sym, ap, _∙_}
 use borrow.Author.Tests.{not-true, not-false, eq-eqb, ne-eqb}
 use Rattle.refusals.proofs.Laws.{was-done, was-refused, refused-some, else-some}
-use Rattle.calendar.specs.Answers.{dayAnswer}
-use Rattle.calendar.specs.Calendar.{dayNumber, dayOf, dateRefusal, weekdayOf}
-use Rattle.record.specs.Rule.{datedRefusal, weekdayAgrees}
-use Rattle.record.proofs.RuleLaws.{date-decides}
+use Rattle.calendar_rules.specs.Answers.{dayAnswer}
+use Rattle.calendar_rules.specs.Calendar.{dayNumber, dayOf, dateRefusal, weekdayOf}
+use Rattle.record_rules.specs.Rule.{datedRefusal, weekdayAgrees}
+use Rattle.record_rules.proofs.RuleLaws.{date-decides}
 use borrow.Author.Needs.{needs}
 use Rattle.record.proofs.rule.dated_refusal.Statement.{statement}
 use Rattle.record.proofs.rule.dated_refusal.Tie as tie

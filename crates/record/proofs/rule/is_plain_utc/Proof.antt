@@ -1,6 +1,6 @@
 -- `record::rule::is_plain_utc` meets its contract.
 use borrow.Author.Tests.{not-true, not-false}
-use Rattle.record.specs.Rule.{plainUtc}
+use Rattle.record_rules.specs.Rule.{plainUtc}
 use Rattle.record.proofs.rule.is_plain_utc.Statement.{statement}
 use Rattle.record.proofs.rule.is_plain_utc.Tie as tie
 

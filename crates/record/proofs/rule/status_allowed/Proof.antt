@@ -1,6 +1,6 @@
 -- `record::rule::status_allowed` meets its contract.
 use mathlib.Core.Path.{sym, _∙_}
-use Rattle.record.specs.Rule.{statusAllowed}
+use Rattle.record_rules.specs.Rule.{statusAllowed}
 use borrow.Author.Needs.{needs}
 use Rattle.record.proofs.rule.status_allowed.Statement.{statement}
 use Rattle.record.proofs.rule.status_allowed.Tie as tie

@@ -1,7 +1,7 @@
 -- `record::rule::table_can_say` meets its contract.
 use mathlib.Core.Path.{sym, _∙_}
 use borrow.Author.Tests.{not-true, not-false}
-use Rattle.record.specs.Rule.{tableCanSay}
+use Rattle.record_rules.specs.Rule.{tableCanSay}
 use borrow.Author.Needs.{needs}
 use Rattle.record.proofs.rule.table_can_say.Statement.{statement}
 use Rattle.record.proofs.rule.table_can_say.Tie as tie

@@ -1,6 +1,6 @@
 -- `record::rule::time_allowed` meets its contract.
 use mathlib.Core.Path.{sym, _∙_}
-use Rattle.record.specs.Rule.{timeAllowed}
+use Rattle.record_rules.specs.Rule.{timeAllowed}
 use borrow.Author.Needs.{needs}
 use Rattle.record.proofs.rule.time_allowed.Statement.{statement}
 use Rattle.record.proofs.rule.time_allowed.Tie as tie

@@ -1,6 +1,6 @@
 -- `record::rule::time_alone_refusal` meets its contract.
 use mathlib.Core.Path.{sym, _∙_}
-use Rattle.record.specs.Rule.{timeAloneAllowed, timeAloneRefusal}
+use Rattle.record_rules.specs.Rule.{timeAloneAllowed, timeAloneRefusal}
 use borrow.Author.Needs.{needs}
 use Rattle.record.proofs.rule.time_alone_refusal.Statement.{statement}
 use Rattle.record.proofs.rule.time_alone_refusal.Tie as tie

@@ -1,6 +1,6 @@
 -- `record::rule::weekday_allowed` meets its contract.
 use borrow.Author.Tests.{lt-leb, le-leb}
-use Rattle.record.specs.Rule.{weekdayAllowed}
+use Rattle.record_rules.specs.Rule.{weekdayAllowed}
 use Rattle.record.proofs.rule.weekday_allowed.Statement.{statement}
 use Rattle.record.proofs.rule.weekday_allowed.Tie as tie
 

@@ -1,5 +1,5 @@
 -- `record::season::season_shift` meets its contract.
-use Rattle.record.specs.Season.{seasonShift}
+use Rattle.record_rules.specs.Season.{seasonShift}
 use Rattle.record.proofs.season.season_shift.Statement.{statement}
 use Rattle.record.proofs.season.season_shift.Tie as tie
 

@@ -2,7 +2,7 @@
 use mathlib.Core.Path.{sym}
 use borrow.Author.Tests.{lt-ltb, le-ltb, le-leb, lt-leb}
 use Rattle.refusals.specs.Refusals.{unless}
-use Rattle.record.specs.Season.{toUtc}
+use Rattle.record_rules.specs.Season.{toUtc}
 use borrow.Author.Needs.{needs}
 use Rattle.record.proofs.season.to_utc.Statement.{statement}
 use Rattle.record.proofs.season.to_utc.Tie as tie

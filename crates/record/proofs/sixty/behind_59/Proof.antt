@@ -1,8 +1,8 @@
 -- `record::sixty::behind_59` meets its contract.
 use mathlib.Core.Path.{sym}
 use borrow.Author.Tests.{eq-eqb, ne-eqb}
-use Rattle.record.specs.Sixty.{sixtyBehind59}
-use Rattle.record.proofs.SixtyLaws.{hour-decides}
+use Rattle.record_rules.specs.Sixty.{sixtyBehind59}
+use Rattle.record_rules.proofs.SixtyLaws.{hour-decides}
 use Rattle.record.proofs.sixty.behind_59.Statement.{statement}
 use Rattle.record.proofs.sixty.behind_59.Tie as tie
 

@@ -2,7 +2,7 @@
 use mathlib.Core.Path.{_∙_}
 use borrow.Author.Tests.{eq-eqb, ne-eqb}
 use borrow.Author.Needs.{needs}
-use Rattle.record.specs.SixtyByFields.{endsInLocal}
+use Rattle.record_rules.specs.SixtyByFields.{endsInLocal}
 use Rattle.record.proofs.sixty.ends_in_local.Statement.{statement}
 use Rattle.record.proofs.sixty.ends_in_local.Tie as tie
 

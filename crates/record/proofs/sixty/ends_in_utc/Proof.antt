@@ -2,7 +2,7 @@
 use borrow.Author.Tests.{eq-eqb, ne-eqb}
 use mathlib.Core.Path.{ap}
 use lib.Dec.{eqb}
-use Rattle.record.specs.SixtyByFields.{endsInUtc}
+use Rattle.record_rules.specs.SixtyByFields.{endsInUtc}
 use Rattle.record.proofs.sixty.ends_in_utc.Statement.{statement}
 use Rattle.record.proofs.sixty.ends_in_utc.Tie as tie
 

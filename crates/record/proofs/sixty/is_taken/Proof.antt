@@ -2,9 +2,9 @@
 use mathlib.Core.Path.{sym, ap, _∙_}
 use borrow.Author.Tests.{not-true, not-false}
 use borrow.Author.Needs.{needs}
-use Rattle.calendar.specs.Answers.{daysAnswer}
-use Rattle.record.specs.SixtyByFields.{sixtyByFields}
-use Rattle.record.proofs.SixtyLaws.{month-told, month-refused, fields-say-the-same}
+use Rattle.calendar_rules.specs.Answers.{daysAnswer}
+use Rattle.record_rules.specs.SixtyByFields.{sixtyByFields}
+use Rattle.record_rules.proofs.SixtyLaws.{month-told, month-refused, fields-say-the-same}
 use Rattle.record.proofs.sixty.is_taken.Statement.{statement}
 use Rattle.record.proofs.sixty.is_taken.Tie as tie
 

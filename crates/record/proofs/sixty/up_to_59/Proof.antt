@@ -1,6 +1,6 @@
 -- `record::sixty::up_to_59` meets its contract.
 use borrow.Author.Tests.{eq-eqb, ne-eqb}
-use Rattle.record.specs.Sixty.{upTo59}
+use Rattle.record_rules.specs.Sixty.{upTo59}
 use Rattle.record.proofs.sixty.up_to_59.Statement.{statement}
 use Rattle.record.proofs.sixty.up_to_59.Tie as tie
 

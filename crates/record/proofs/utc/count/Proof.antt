@@ -1,8 +1,8 @@
 -- `record::utc::count` meets its contract.
 use mathlib.Core.Path.{sym, ap, _∙_}
 use Rattle.refusals.specs.Refusals.{after}
-use Rattle.record.specs.Answers.{recordAnswer}
-use Rattle.record.specs.Utc.{ownSeconds}
+use Rattle.record_rules.specs.Answers.{recordAnswer}
+use Rattle.record_rules.specs.Utc.{ownSeconds}
 use borrow.Author.Needs.{needs}
 use Rattle.record.proofs.utc.count.Statement.{statement}
 use Rattle.record.proofs.utc.count.Tie as tie

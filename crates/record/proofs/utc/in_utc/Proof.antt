@@ -1,6 +1,6 @@
 -- `record::utc::in_utc` meets its contract.
 use mathlib.Core.Path.{sym, ap, _∙_}
-use Rattle.record.specs.Moment.{inUtc}
+use Rattle.record_rules.specs.Moment.{inUtc}
 use borrow.Author.Needs.{needs}
 use Rattle.record.proofs.utc.in_utc.Statement.{statement}
 use Rattle.record.proofs.utc.in_utc.Tie as tie

@@ -1,6 +1,6 @@
 -- `record::utc::is_60` meets its contract.
 use mathlib.Core.Path.{sym, ap}
-use Rattle.record.specs.Rule.{is60}
+use Rattle.record_rules.specs.Rule.{is60}
 use borrow.Author.Needs.{needs}
 use Rattle.record.proofs.utc.is_60.Statement.{statement}
 use Rattle.record.proofs.utc.is_60.Tie as tie

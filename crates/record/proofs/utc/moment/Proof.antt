@@ -2,9 +2,9 @@
 use mathlib.Core.Path.{sym, ap, _∙_}
 use native.Mathlib.Omega.{arith}
 use Rattle.refusals.specs.Refusals.{done}
-use Rattle.calendar.specs.Answers.{dayAnswer, secondAnswer}
-use Rattle.calendar.proofs.Laws.{day-number-bound, second-bound}
-use Rattle.record.specs.Moment.{momentOf}
+use Rattle.calendar_rules.specs.Answers.{dayAnswer, secondAnswer}
+use Rattle.calendar_rules.proofs.Laws.{day-number-bound, second-bound}
+use Rattle.record_rules.specs.Moment.{momentOf}
 use borrow.Author.Needs.{needs}
 use Rattle.record.proofs.utc.moment.Statement.{statement}
 use Rattle.record.proofs.utc.moment.Tie as tie

@@ -1,7 +1,7 @@
 -- `record::utc::numbered_as` meets its contract.
 use mathlib.Core.Path.{sym, _∙_}
 use Rattle.refusals.proofs.Laws.{refuses, does}
-use Rattle.record.specs.Utc.{numberedAs}
+use Rattle.record_rules.specs.Utc.{numberedAs}
 use borrow.Author.Needs.{needs}
 use Rattle.record.proofs.utc.numbered_as.Statement.{statement}
 use Rattle.record.proofs.utc.numbered_as.Tie as tie

@@ -1,6 +1,6 @@
 -- `record::utc::own_seconds` meets its contract.
 use mathlib.Core.Path.{sym, ap, _∙_}
-use Rattle.record.specs.Utc.{ownSeconds}
+use Rattle.record_rules.specs.Utc.{ownSeconds}
 use borrow.Author.Needs.{needs}
 use Rattle.record.proofs.utc.own_seconds.Statement.{statement}
 use Rattle.record.proofs.utc.own_seconds.Tie as tie

@@ -1,8 +1,8 @@
 -- `record::utc::utc_seconds` meets its contract.
 use mathlib.Core.Path.{sym, ap, _∙_}
-use Rattle.record.specs.Answers.{countAnswer}
-use Rattle.record.specs.Utc.{countOf, utcSeconds}
-use Rattle.record.proofs.UtcLaws.{utc-refused, time-has-no-count, utc-of-count}
+use Rattle.record_rules.specs.Answers.{countAnswer}
+use Rattle.record_rules.specs.Utc.{countOf, utcSeconds}
+use Rattle.record_rules.proofs.UtcLaws.{utc-refused, time-has-no-count, utc-of-count}
 use borrow.Author.Needs.{needs}
 use Rattle.record.proofs.utc.utc_seconds.Statement.{statement}
 use Rattle.record.proofs.utc.utc_seconds.Tie as tie

@@ -1,9 +1,9 @@
 -- `telegram::read::read` meets its contract.
 use mathlib.Core.Path.{refl, sym, ap, _∙_}
 use mathlib.Core.Bool.{false}
-use Rattle.layouts.specs.Answers.{layoutAnswer}
-use Rattle.telegram.specs.Reading.{readOf}
-use Rattle.telegram.proofs.ReadLaws.{no-layout, by-body}
+use Rattle.layouts_rules.specs.Answers.{layoutAnswer}
+use Rattle.telegram_rules.specs.Reading.{readOf}
+use Rattle.telegram_rules.proofs.ReadLaws.{no-layout, by-body}
 use borrow.Author.Needs.{needs}
 use Rattle.telegram.proofs.read.read.Statement.{statement}
 use Rattle.telegram.proofs.read.read.Tie as tie

@@ -2,9 +2,9 @@
 use mathlib.Core.Path.{sym, ap, _∙_}
 use native.Mathlib.Omega.{arith}
 use Rattle.refusals.specs.Refusals.{done}
-use Rattle.record.specs.Rule.{refusalOf}
-use Rattle.layouts.proofs.RowLaws.{span-ends, span-within}
-use Rattle.telegram.proofs.ReadLaws.{seen, carried-is, ends-in-row, ends-refused, ends-good}
+use Rattle.record_rules.specs.Rule.{refusalOf}
+use Rattle.layouts_rules.proofs.RowLaws.{span-ends, span-within}
+use Rattle.telegram_rules.proofs.ReadLaws.{seen, carried-is, ends-in-row, ends-refused, ends-good}
 use borrow.Author.Needs.{needs}
 use Rattle.telegram.proofs.read.read_as.Statement.{statement}
 use Rattle.telegram.proofs.read.read_as.Tie as tie

@@ -5,10 +5,10 @@ use native.Mathlib.Omega.{arith}
 use lib.ListN.{length, length-set, take, getD}
 use borrow.Author.Needs.{needs}
 use Rattle.lent_buffer.proofs.CopyLaws.{copy-step}
-use Rattle.telegram.proofs.ExchangeLaws.{too-long, copy-read}
-use Rattle.trailer.specs.Trailer.{exchangeAt}
-use Rattle.telegram.specs.Reading.{readOf}
-use Rattle.trailer.specs.declared.Order.the-variants.{Exchanged}
+use Rattle.telegram_rules.proofs.ExchangeLaws.{too-long, copy-read}
+use Rattle.trailer_rules.specs.Trailer.{exchangeAt}
+use Rattle.telegram_rules.specs.Reading.{readOf}
+use Rattle.trailer_rules.specs.declared.Order.the-variants.{Exchanged}
 use Rattle.telegram.proofs.read.read_exchanged.Statement.{statement}
 use Rattle.telegram.proofs.read.read_exchanged.Tie as tie
 

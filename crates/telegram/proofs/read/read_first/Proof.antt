@@ -4,7 +4,7 @@ use Prim.Native.Nat.{_-_}
 use native.Mathlib.Omega.{arith}
 use lib.ListN.{take}
 use lib.Seq.{take-all}
-use Rattle.telegram.specs.Reading.{readOf}
+use Rattle.telegram_rules.specs.Reading.{readOf}
 use borrow.Author.Needs.{needs}
 use Rattle.telegram.proofs.read.read_first.Statement.{statement}
 use Rattle.telegram.proofs.read.read_first.Tie as tie

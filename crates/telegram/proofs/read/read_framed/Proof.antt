@@ -1,10 +1,10 @@
 -- `telegram::read::read_framed` meets its contract.
 use mathlib.Core.Path.{sym, ap, _∙_}
 use mathlib.Core.Bool.{true, not}
-use Rattle.layouts.specs.Answers.{layoutAnswer}
-use Rattle.layouts.specs.Layouts.{layoutOf}
-use Rattle.telegram.specs.Reading.{readBodyAs}
-use Rattle.telegram.proofs.ReadLaws.{body-between, too-short, no-layout, not-framed, by-body}
+use Rattle.layouts_rules.specs.Answers.{layoutAnswer}
+use Rattle.layouts_rules.specs.Layouts.{layoutOf}
+use Rattle.telegram_rules.specs.Reading.{readBodyAs}
+use Rattle.telegram_rules.proofs.ReadLaws.{body-between, too-short, no-layout, not-framed, by-body}
 use borrow.Author.Needs.{needs}
 use Rattle.telegram.proofs.read.read_framed.Statement.{statement}
 use Rattle.telegram.proofs.read.read_framed.Tie as tie

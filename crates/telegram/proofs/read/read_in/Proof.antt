@@ -1,6 +1,6 @@
 -- `telegram::read::read_in` meets its contract.
 use mathlib.Core.Path.{sym, ap, _∙_}
-use Rattle.telegram.specs.Reading.{readIn}
+use Rattle.telegram_rules.specs.Reading.{readIn}
 use borrow.Author.Needs.{needs}
 use Rattle.telegram.proofs.read.read_in.Statement.{statement}
 use Rattle.telegram.proofs.read.read_in.Tie as tie

@@ -1,6 +1,6 @@
 -- `telegram::write::as_6021` meets its contract.
 use mathlib.Core.Path.{sym, ap}
-use Rattle.telegram.specs.Writing.{as6021}
+use Rattle.telegram_rules.specs.Writing.{as6021}
 use borrow.Author.Needs.{needs}
 use Rattle.telegram.proofs.write.as_6021.Statement.{statement}
 use Rattle.telegram.proofs.write.as_6021.Tie as tie

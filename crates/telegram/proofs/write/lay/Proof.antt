@@ -2,7 +2,7 @@
 use mathlib.Core.Path.{ap, _∙_}
 use Rattle.refusals.specs.Refusals.{done}
 use Rattle.lent_buffer.specs.Laying.{laid}
-use Rattle.telegram.specs.Writing.{telegramOf}
+use Rattle.telegram_rules.specs.Writing.{telegramOf}
 use borrow.Author.Needs.{needs}
 use Rattle.telegram.proofs.write.lay.Statement.{statement}
 use Rattle.telegram.proofs.write.lay.Tie as tie

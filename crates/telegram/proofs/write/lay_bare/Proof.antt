@@ -6,9 +6,9 @@ use native.Mathlib.Omega.{arith}
 use lib.ListN.{length}
 use Rattle.refusals.specs.Refusals.{done}
 use Rattle.lent_buffer.proofs.LayingLaws.{laid-short, laid-fits}
-use Rattle.layouts.proofs.RowLaws.{span-ends, span-within}
-use Rattle.telegram.specs.Writing.{bodyBytes, telegramOf}
-use Rattle.telegram.proofs.WriteLaws.{span-size, body-laid, over-room}
+use Rattle.layouts_rules.proofs.RowLaws.{span-ends, span-within}
+use Rattle.telegram_rules.specs.Writing.{bodyBytes, telegramOf}
+use Rattle.telegram_rules.proofs.WriteLaws.{span-size, body-laid, over-room}
 use borrow.Author.Needs.{needs}
 use Rattle.telegram.proofs.write.lay_bare.Statement.{statement}
 use Rattle.telegram.proofs.write.lay_bare.Tie as tie

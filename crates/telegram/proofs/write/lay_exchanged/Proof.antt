@@ -1,9 +1,9 @@
 -- `telegram::write::lay_exchanged` meets its contract.
 use mathlib.Core.Path.{sym, ap, _∙_}
 use Rattle.refusals.specs.Refusals.{done}
-use Rattle.trailer.specs.Trailer.{exchangeAt}
-use Rattle.telegram.specs.Answers.{writeAnswer}
-use Rattle.telegram.proofs.ExchangeLaws.{laid-then, laid-not}
+use Rattle.trailer_rules.specs.Trailer.{exchangeAt}
+use Rattle.telegram_rules.specs.Answers.{writeAnswer}
+use Rattle.telegram_rules.proofs.ExchangeLaws.{laid-then, laid-not}
 use borrow.Author.Needs.{needs}
 use Rattle.telegram.proofs.write.lay_exchanged.Statement.{statement}
 use Rattle.telegram.proofs.write.lay_exchanged.Tie as tie

@@ -8,9 +8,9 @@ use lib.ListN.{length, drop, set, length-set}
 use borrow.Rule.Slice.PartMut.{putMid}
 use Rattle.refusals.specs.Refusals.{done}
 use Rattle.lent_buffer.proofs.LayingLaws.{laid-short, laid-fits}
-use Rattle.layouts.proofs.RowLaws.{span-ends, span-within}
-use Rattle.telegram.specs.Writing.{bodyBytes, telegramOf}
-use Rattle.telegram.proofs.WriteLaws.{span-size, span-small, length-framed, body-laid, length-framing, framed-laid}
+use Rattle.layouts_rules.proofs.RowLaws.{span-ends, span-within}
+use Rattle.telegram_rules.specs.Writing.{bodyBytes, telegramOf}
+use Rattle.telegram_rules.proofs.WriteLaws.{span-size, span-small, length-framed, body-laid, length-framing, framed-laid}
 use borrow.Author.Needs.{needs}
 use Rattle.telegram.proofs.write.lay_framed.Statement.{statement}
 use Rattle.telegram.proofs.write.lay_framed.Tie as tie

@@ -1,8 +1,8 @@
 -- `telegram::write::record_to_write` meets its contract.
 use mathlib.Core.Path.{sym, ap, _∙_}
 use Rattle.refusals.specs.Refusals.{after}
-use Rattle.record.specs.Answers.{recordAnswer}
-use Rattle.telegram.specs.Writing.{as6021}
+use Rattle.record_rules.specs.Answers.{recordAnswer}
+use Rattle.telegram_rules.specs.Writing.{as6021}
 use borrow.Author.Needs.{needs}
 use Rattle.telegram.proofs.write.record_to_write.Statement.{statement}
 use Rattle.telegram.proofs.write.record_to_write.Tie as tie

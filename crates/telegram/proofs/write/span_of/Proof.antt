@@ -1,6 +1,6 @@
 -- `telegram::write::span_of` meets its contract.
 use mathlib.Core.Path.{ap, _∙_}
-use Rattle.layouts.specs.Layouts.{spanOf}
+use Rattle.layouts_rules.specs.Layouts.{spanOf}
 use borrow.Author.Needs.{needs}
 use Rattle.telegram.proofs.write.span_of.Statement.{statement}
 use Rattle.telegram.proofs.write.span_of.Tie as tie

@@ -2,8 +2,8 @@
 use mathlib.Core.Path.{sym, ap, _∙_}
 use Rattle.lent_buffer.specs.Laying.{laid}
 use Rattle.lent_buffer.proofs.LayingLaws.{laid-refused}
-use Rattle.record.specs.Answers.{recordAnswer}
-use Rattle.telegram.proofs.WriteLaws.{telegram-refused, telegram-made}
+use Rattle.record_rules.specs.Answers.{recordAnswer}
+use Rattle.telegram_rules.proofs.WriteLaws.{telegram-refused, telegram-made}
 use borrow.Author.Needs.{needs}
 use Rattle.telegram.proofs.write.write.Statement.{statement}
 use Rattle.telegram.proofs.write.write.Tie as tie

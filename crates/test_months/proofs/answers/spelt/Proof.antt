@@ -1,6 +1,6 @@
 -- `test_months::answers::spelt` is safe: every layout's row lies among the rows.
 use native.Mathlib.Omega.{arith}
-use Rattle.layouts.proofs.RowLaws.{span-ends, span-within}
+use Rattle.layouts_rules.proofs.RowLaws.{span-ends, span-within}
 use borrow.Author.Needs.{needs}
 use Rattle.test_months.proofs.answers.spelt.Statement.{statement}
 use Rattle.test_months.proofs.answers.spelt.Tie as tie

@@ -4,8 +4,8 @@ use native.Mathlib.Omega.{arith}
 use lib.ListN.{length}
 use Rattle.lent_buffer.proofs.LayingLaws.{within-done, stands}
 use Rattle.lent_buffer.proofs.TailLaws.{tail-lent, tail-length}
-use Rattle.telegram.specs.Answers.{writeAnswer}
-use Rattle.telegram.specs.Writing.{telegramFor}
+use Rattle.telegram_rules.specs.Answers.{writeAnswer}
+use Rattle.telegram_rules.specs.Writing.{telegramFor}
 use Rattle.telegram.proofs.SeveralLaws.{ended-before, one-stands, one-stops}
 use borrow.Author.Needs.{needs}
 use Rattle.telegram.proofs.several.Several.add.Statement.{statement}

@@ -1,0 +1,11 @@
+pub mod Switches
+pub mod Rates
+pub mod Settings
+pub mod Of6036
+pub mod Of6038
+pub mod Answers
+pub mod RoundTrip
+pub mod RoundTrip6038
+pub mod Rows
+pub mod AsPrinted
+pub mod AsPrinted6038

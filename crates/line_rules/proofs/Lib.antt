@@ -1,0 +1,12 @@
+pub mod FeedLaws
+pub mod RunLaws
+pub mod GoodLines
+pub mod EventLaws
+pub mod AccountLaws
+pub mod SentLaws
+pub mod SentGives
+pub mod PositionLaws
+pub mod SentencesHold
+pub mod SkippingHolds
+pub mod LongerTelegramsHold
+pub mod OrderStays

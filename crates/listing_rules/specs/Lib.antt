@@ -1,0 +1,6 @@
+pub mod Decimals
+pub mod Listing
+pub mod LogRows
+pub mod Answers
+pub mod AsPrinted
+pub mod LogAsPrinted

@@ -1,0 +1,13 @@
+pub mod Check
+pub mod Block
+pub mod Good
+pub mod Region
+pub mod Verify
+pub mod Add
+pub mod ReadBack
+pub mod Answers
+pub mod Tests
+pub mod AsPrinted
+pub mod LongestTelegram
+pub mod OfABlock
+pub mod OfTheLog

@@ -1,0 +1,7 @@
+// The answer about a record's count of seconds.
+use super::season::Count;
+
+pub enum CountAnswer {
+    Counted(Count),
+    Refused(u8),
+}

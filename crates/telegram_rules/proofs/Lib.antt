@@ -1,0 +1,10 @@
+pub mod ReadLaws
+pub mod WriteLaws
+pub mod Frames
+pub mod BackAndForth
+pub mod InOrder
+pub mod ExchangeLaws
+pub mod ReadsBack
+pub mod Whole
+pub mod AsPrintedHolds
+pub mod OrderAsPrintedHolds
