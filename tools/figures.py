@@ -3,11 +3,11 @@
 
 Blank lines and comments are not counted.
 """
-import pathlib
 import re
 import subprocess
 
-ROOT = pathlib.Path(__file__).resolve().parent.parent
+import tree
+
 FUNCTION = re.compile(r"^\s*(pub(\(\w+\))? )?fn ", re.M)
 COMMENTS = {".rt": "//", ".antt": "--"}
 
@@ -31,12 +31,12 @@ def figures_of(crate):
 
 
 def main():
-    names = [line.split(":")[0] for line in (ROOT / "crates.txt").read_text(encoding="utf-8").split("\n") if ":" in line]
-    rows = [(name, figures_of(ROOT / "crates" / name)) for name in names]
+    names = tree.crates()
+    rows = [(name, figures_of(tree.ROOT / "crates" / name)) for name in names]
     rows.append((f"{len(names)} crates", [sum(column) for column in zip(*(figures for _, figures in rows))]))
-    print(f"{'':12}{'functions':>10}{'code':>8}{'definitions':>13}{'proofs':>8}{'edits':>7}")
+    print(f"{'':18}{'functions':>10}{'code':>8}{'definitions':>13}{'proofs':>8}{'edits':>7}")
     for name, (functions, code, definitions, proofs, edits) in rows:
-        print(f"{name:12}{functions:10}{code:8}{definitions:13}{proofs:8}{edits:7}")
+        print(f"{name:18}{functions:10}{code:8}{definitions:13}{proofs:8}{edits:7}")
     print(subprocess.run(["rt", "version"], check=True, capture_output=True, text=True).stdout.strip())
 
 

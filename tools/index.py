@@ -6,7 +6,7 @@ of each row names one thing or more, in backticks, and each must be there:
 
     crate/specs/File.name        a definition; crate/specs/File is all of a file
     crate/proofs/File.name       a theorem; crate/proofs/File is all of a file
-    crate::module::name          a function, a type or a constant
+    crate::module::name          a function, a type or a constant, also one that the module hands on
     crate/must-fail/label        a must-fail edit
     reference/file.name          a function or a table of the second implementation
     path/of/a/file               a file, as a program's input crates/test_cases/stdin, a sample or a page
@@ -55,7 +55,9 @@ class Names:
         self.there |= {function.path for function in crate.functions}
         for module, source in crate.modules.items():
             self.there.add(module)
-            self.there |= {f"{module}::{declared}" for declared in DECLARED.findall(tree.without_comments(tree.text_of(source)))}
+            text = tree.without_comments(tree.text_of(source))
+            handed_on = [path.split("::")[-1] for path in tree.PASSED_ON.findall(text)]
+            self.there |= {f"{module}::{declared}" for declared in DECLARED.findall(text) + handed_on}
 
     def has(self, name):
         if name in self.there:

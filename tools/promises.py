@@ -19,9 +19,9 @@ On the page a promise is the text of the `ensures`, by these rules and no others
 
 The page lists every public function by its path, as `calendar::date::day_number`, in a table whose first columns are `function`
 and `promise`. It may list others, whose promise must then be right too. The last column names must-fail edits in parentheses, as
-(`april_31`), of the function's crate; elsewhere on the page such a name is an edit of the crate that the heading above it names,
-and (`crate/label`) is one of any crate. Each edit of the tree is named, and each that is named is there. The row of a public
-function names an edit, or a definition or theorem that fails without it.
+(`april_31`), of the function's crate or of the crate of its rules; elsewhere on the page such a name is an edit of the crate that the
+heading above it names, or of its rules, and (`crate/label`) is one of any crate. Each edit of the tree is named, and each that is named
+is there. The row of a public function names an edit, or a definition or theorem that fails without it.
 """
 import re
 import sys
@@ -149,6 +149,12 @@ def rows_of(lines):
             yield Row(number, cells)
 
 
+def home_of(crate, label):
+    """The crate that has an edit: this one, or that of its rules."""
+    rules = tree.rules_of(crate)
+    return rules if label in tree.edits(rules) and label not in tree.edits(crate) else crate
+
+
 def edits_named(lines, rows, known):
     """Each edit that the page names, as crate and label, with the line that names it."""
     paths = {row.number: row.path.split("::")[0] for row in rows if row.path}
@@ -161,7 +167,8 @@ def edits_named(lines, rows, known):
                 if re.fullmatch(r"\w+/\w+", name):
                     yield tuple(name.split("/")), number
                 elif re.fullmatch(r"\w+", name):
-                    yield (paths.get(number, section), name), number
+                    crate = paths.get(number, section)
+                    yield (home_of(crate, name) if crate else crate, name), number
 
 
 def names_known(known):

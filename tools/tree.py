@@ -26,6 +26,11 @@ def crates(root=ROOT):
     return [line.split(":")[0].strip() for line in text_of(root / "crates.txt").split("\n") if ":" in line and not line.startswith("#")]
 
 
+def rules_of(crate):
+    """The name of the crate that says what is right of what a crate does."""
+    return f"{crate}_rules"
+
+
 def without_comments(text):
     """A source's text with its `//` comments blanked, so that places stay."""
     return re.sub(r"//[^\n]*", lambda found: " " * len(found.group()), text)
