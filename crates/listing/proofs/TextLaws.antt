@@ -4,14 +4,13 @@ use mathlib.Core.List.{List, [], _∷_, _++_, append-nil}
 use Prim.Native.Nat.{ℕ, suc, _+_, _≤_, _<_}
 use native.Mathlib.Numerals.{add-one}
 use native.Mathlib.Omega.{arith}
-use lib.ListN.{length, take, drop, getD, set, length-set, length-append, drop-of-length-le}
+use lib.ListN.{length, take, drop, getD, set, length-set, length-append, length-take, drop-of-length-le}
 use lib.Seq.{take-suc, take-suc-set, drop-cons, set-at, length-take-le, append-snoc}
 use borrow.Author.Tests.{lt-ltb}
 use Rattle.refusals.specs.Refusals.{Outcome, done, refused}
 use Rattle.lent_buffer.specs.Laying.{laid}
 use Rattle.lent_buffer.proofs.LayingLaws.{laid-short, laid-fits}
-use Rattle.listing.specs.declared.Text.{Text}
-use Rattle.listing.specs.Texts.{textRoom, emptyText, pushed, appended, contentOf}
+use Rattle.listing.specs.Texts.{Text, textOf, textRoom, emptyText, pushed, appended, contentOf}
 
 appended-twice : (text : Text) (xs ys : List ℕ) → appended text (xs ++ ys) ≡ appended (appended text xs) ys
 unfolding appended
@@ -22,9 +21,6 @@ appended-twice text (x ∷ xs) ys = appended-twice (pushed text x) xs ys
 pub behind : {next last : Text} (text : Text) (xs ys : List ℕ) → next ≡ appended text xs → last ≡ appended next ys
     → last ≡ appended text (xs ++ ys)
 behind text xs ys e f = f ∙ ap (λ t. appended t ys) e ∙ sym (appended-twice text xs ys)
-
-pub from-empty : {text last : Text} (row : List ℕ) → text ≡ emptyText → last ≡ appended text row → last ≡ appended emptyText row
-from-empty row e f = f ∙ ap (λ t. appended t row) e
 
 -- a byte that is known by another name
 pub as-byte : {next : Text} {b byte : ℕ} (text : Text) → b ≡ byte → next ≡ appended text (b ∷ []) → next ≡ appended text (byte ∷ [])
@@ -76,12 +72,12 @@ holds text row e short =
     rw e (appended-holds emptyText [] row (record { room = refl; len = refl; content = refl }) (omega arith))
 
 -- so that it can be laid, and is what is laid
-module _ (text : Text) (row : List ℕ) (made : text ≡ appended emptyText row) (short : length row ≤ textRoom) where
-  pub small-enough : text .len ≤ textRoom
-  small-enough = omega (arith, holds text row made short .len)
+module _ {bytes row : List ℕ} {len : ℕ} (whole : Holds (textOf bytes len) row) where
+  pub stands : len ≤ length bytes
+  stands = omega (arith, whole .len, simp length-take at (ap length (whole .content)))
 
-  pub row-laid : {answer : Outcome ℕ × List ℕ} (out : List ℕ) → laid (done (contentOf text)) out ≡ answer → laid (done row) out ≡ answer
-  row-laid out e = ap (λ bytes. laid (done bytes) out) (sym (holds text row made short .content)) ∙ e
+  pub row-laid : {answer : Outcome ℕ × List ℕ} (out : List ℕ) → laid (done (take len bytes)) out ≡ answer → laid (done row) out ≡ answer
+  row-laid out e = ap (λ shown. laid (done shown) out) (sym (whole .content)) ∙ e
 
 -- copying byte by byte over the first bytes of a buffer
 pub copy-step : (from out : List ℕ) (at : ℕ) → at < length from → at < length out
@@ -92,16 +88,16 @@ copy-step from out at f o =
     ∙ sym (append-snoc (take at from) (getD from at 0) (drop (suc at) out))
     ∙ ap (λ l. l ++ drop (suc at) out) (sym (take-suc from at 0 f)))
 
--- The ways in which a text is laid.
-module _ (text : Text) (out : List ℕ) (bound : length (text .bytes) ≡ textRoom) (small : text .len ≤ textRoom) where
-  size : length (contentOf text) ≡ text .len
-  size = length-take-le (text .len) (text .bytes) (omega arith)
+-- The ways in which the first bytes of a list are laid.
+module _ (bytes out : List ℕ) (len : ℕ) (whole : len ≤ length bytes) where
+  size : length (take len bytes) ≡ len
+  size = length-take-le len bytes whole
 
-  pub no-room : length out < text .len → laid (done (contentOf text)) out ≡ (refused 13, out)
-  no-room short = laid-short (contentOf text) out (omega (arith, size))
+  pub no-room : length out < len → laid (done (take len bytes)) out ≡ (refused 13, out)
+  no-room short = laid-short (take len bytes) out (omega (arith, size))
 
-  pub all-laid : (last : List ℕ) (at : ℕ) → text .len ≤ length out → at ≡ text .len → last ≡ take at (text .bytes) ++ drop at out
-      → laid (done (contentOf text)) out ≡ (done (text .len), last)
+  pub all-laid : (last : List ℕ) (at : ℕ) → len ≤ length out → at ≡ len → last ≡ take at bytes ++ drop at out
+      → laid (done (take len bytes)) out ≡ (done len, last)
   all-laid last at fits end e =
-      laid-fits (contentOf text) out (omega (arith, size))
-      ∙ ap₂ (λ n l. (done n, l)) size (ap (λ n. contentOf text ++ drop n out) size ∙ sym (e ∙ ap (λ n. take n (text .bytes) ++ drop n out) end))
+      laid-fits (take len bytes) out (omega (arith, size))
+      ∙ ap₂ (λ n l. (done n, l)) size (ap (λ n. take len bytes ++ drop n out) size ∙ sym (e ∙ ap (λ n. take n bytes ++ drop n out) end))

@@ -8,10 +8,11 @@ ghost use mathlib.Core.Path.{_≡_};
 ghost use mathlib.Core.Bool.{cond};
 ghost use mathlib.Core.List.{[], _∷_};
 ghost use Prim.Native.Nat.{_≤_};
+ghost use lib.ListN.{length, take};
 ghost use Rattle.refusals.specs.Refusals.{done};
 ghost use Rattle.lent_buffer.specs.Laying.{laid};
 ghost use Rattle.listing_rules.specs.Decimals.{digit, two, four, decimal};
-ghost use Rattle.listing.specs.Texts.{textRoom, emptyText, appended, contentOf};
+ghost use Rattle.listing.specs.Texts.{textOf, appended};
 ghost use Rattle.listing_rules.specs.Answers.{rowAnswer};
 
 // No row of a line's listing has more bytes.
@@ -20,14 +21,9 @@ pub const LONGEST_ROW: usize = 69;
 // No row of a log's listings has more bytes.
 pub const LONGEST_LOG_ROW: usize = 83;
 
-// How many bytes a text has room for: no row is cut off.
+// A row in the making is a text: an array that is lent, and how many of its bytes stand so far. What puts bytes behind them answers
+// how many stand then. It is lent because a copy of bytes that were just written is slow. It has room for so many: no row is cut off.
 const TEXT_ROOM: usize = 88;
-
-// A row in the making.
-struct Text {
-    bytes: [u8; TEXT_ROOM],
-    len: usize,
-}
 
 // The character of a number's last digit.
 fn digit(n: u64) -> u8
@@ -36,91 +32,82 @@ fn digit(n: u64) -> u8
     b'0' + (n % 10) as u8
 }
 
-impl Text {
-    // Nothing yet.
-    fn empty() -> Text
-        ensures { λ r. ⌜ r ≡ emptyText ⌝ }
-    {
-        Text {
-            bytes: [0u8; TEXT_ROOM],
-            len: 0,
-        }
+// One byte more. What goes beyond the room is dropped.
+fn push(text: &mut [u8; TEXT_ROOM], len: usize, byte: u8) -> usize
+    ensures { λ r. ⌜ textOf (now (text .exit)) r ≡ appended (textOf (now (text .entry)) len) (byte ∷ []) ⌝ }
+{
+    if len < TEXT_ROOM {
+        text[len] = byte;
+        return len + 1;
     }
+    len
+}
 
-    // One byte more. What goes beyond the room is dropped.
-    fn push(mut self, byte: u8) -> Text
-        ensures { λ r. ⌜ r ≡ appended self (byte ∷ []) ⌝ }
-    {
-        let len = self.len;
-        if len < TEXT_ROOM {
-            self.bytes[len] = byte;
-            self.len = len + 1;
-        }
-        self
+// The bytes of a word, one behind another.
+fn append(text: &mut [u8; TEXT_ROOM], len: usize, word: &[u8]) -> usize
+    ensures { λ r. ⌜ textOf (now (text .exit)) r ≡ appended (textOf (now (text .entry)) len) (now (word .entry)) ⌝ }
+{
+    let mut end = len;
+    let mut at: usize = 0;
+    while at < word.len() {
+        end = push(text, end, word[at]);
+        at += 1;
     }
+    end
+}
 
-    // The bytes of a word, one behind another.
-    fn append(self, word: &[u8]) -> Text
-        ensures { λ r. ⌜ r ≡ appended self (now (word .entry)) ⌝ }
-    {
-        let mut text = self;
-        let mut at: usize = 0;
-        while at < word.len() {
-            text = text.push(word[at]);
-            at += 1;
-        }
-        text
+// A word that may be missing.
+fn append_if(text: &mut [u8; TEXT_ROOM], len: usize, wanted: bool, word: &[u8]) -> usize
+    ensures { λ r. ⌜ textOf (now (text .exit)) r ≡ appended (textOf (now (text .entry)) len) (cond wanted (now (word .entry)) []) ⌝ }
+{
+    if wanted {
+        return append(text, len, word);
     }
+    len
+}
 
-    // A word that may be missing.
-    fn append_if(self, wanted: bool, word: &[u8]) -> Text
-        ensures { λ r. ⌜ r ≡ appended self (cond wanted (now (word .entry)) []) ⌝ }
-    {
-        if wanted {
-            return self.append(word);
-        }
-        self
-    }
+// The last two digits, padded.
+fn two(text: &mut [u8; TEXT_ROOM], len: usize, n: u64) -> usize
+    ensures { λ r. ⌜ textOf (now (text .exit)) r ≡ appended (textOf (now (text .entry)) len) (two n) ⌝ }
+{
+    let len = push(text, len, digit(n / 10));
+    push(text, len, digit(n))
+}
 
-    // All digits of a number, without padding.
-    fn decimal(self, n: u64) -> Text
-        ensures { λ r. ⌜ r ≡ appended self (decimal n) ⌝ }
-    {
-        if n < 10 {
-            return self.push(digit(n));
-        }
-        self.decimal(n / 10).push(digit(n))
-    }
+// The last four digits, padded.
+fn four(text: &mut [u8; TEXT_ROOM], len: usize, n: u64) -> usize
+    ensures { λ r. ⌜ textOf (now (text .exit)) r ≡ appended (textOf (now (text .entry)) len) (four n) ⌝ }
+{
+    let len = two(text, len, n / 100);
+    two(text, len, n)
+}
 
-    // The last two digits, padded.
-    fn two(self, n: u64) -> Text
-        ensures { λ r. ⌜ r ≡ appended self (two n) ⌝ }
-    {
-        self.push(digit(n / 10)).push(digit(n))
+// All digits of a number, without padding: two in each call, so that the calls are few.
+fn decimal(text: &mut [u8; TEXT_ROOM], len: usize, n: u64) -> usize
+    ensures { λ r. ⌜ textOf (now (text .exit)) r ≡ appended (textOf (now (text .entry)) len) (decimal n) ⌝ }
+{
+    if n < 10 {
+        return push(text, len, digit(n));
     }
+    if n < 100 {
+        return two(text, len, n);
+    }
+    let len = decimal(text, len, n / 100);
+    two(text, len, n)
+}
 
-    // The last four digits, padded.
-    fn four(self, n: u64) -> Text
-        ensures { λ r. ⌜ r ≡ appended self (four n) ⌝ }
-    {
-        self.two(n / 100).two(n)
+// Lays the first bytes at the front of the buffer, if there is room for them.
+fn lay(bytes: &[u8], len: usize, out: &mut [u8]) -> RowAnswer
+    requires { ⌜ len ≤ length (now bytes) ⌝ }
+    ensures { λ r. ⌜ laid (done (take len (now (bytes .entry)))) (now (out .entry)) ≡ (rowAnswer r, now (out .exit)) ⌝ }
+{
+    if out.len() < len {
+        return RowAnswer::Refused(BUFFER_SHORT);
     }
-
-    // Lays the text at the front of the buffer, if there is room for it.
-    fn lay(self, out: &mut [u8]) -> RowAnswer
-        requires { ⌜ self .len ≤ textRoom ⌝ }
-        ensures { λ r. ⌜ laid (done (contentOf self)) (now (out .entry)) ≡ (rowAnswer r, now (out .exit)) ⌝ }
-    {
-        let bytes = self.bytes;
-        let len = self.len;
-        if out.len() < len {
-            return RowAnswer::Refused(BUFFER_SHORT);
-        }
-        let mut at: usize = 0;
-        while at < len {
-            out[at] = bytes[at];
-            at += 1;
-        }
-        RowAnswer::Written(len)
+    let mut at: usize = 0;
+    while at < len {
+        out[at] = bytes[at];
+        at += 1;
     }
+    RowAnswer::Written(len)
 }

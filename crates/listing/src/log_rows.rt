@@ -1,6 +1,10 @@
 // The rows of a log's two listings: its telegrams, block by block, and its blocks verified.
 use super::RowAnswer;
-use super::Text;
+use super::TEXT_ROOM;
+use super::append;
+use super::decimal;
+use super::lay;
+use super::push;
 use super::rows::columns;
 use super::rows::refused_row;
 use record::Record;
@@ -9,68 +13,25 @@ ghost use mathlib.Core.Path.{_≡_};
 ghost use Rattle.refusals.specs.Refusals.{done};
 ghost use Rattle.lent_buffer.specs.Laying.{laid};
 ghost use Rattle.listing_rules.specs.LogRows.{logHeader, slotRow, telegramRow, blockRow, verifyHeader, blockColumns, goodRow, badRow, tailRow, badCount};
-ghost use Rattle.listing.specs.Texts.{emptyText, appended};
+ghost use Rattle.listing.specs.Texts.{textOf, appended};
 ghost use Rattle.listing_rules.specs.Answers.{rowAnswer};
 
-fn header_text() -> Text
-    ensures { λ r. ⌜ r ≡ appended emptyText logHeader ⌝ }
-{
-    Text::empty().append(b"block;slot;kind;date;time;weekday;status\n")
-}
-
-fn slot_text(block: u64, slot: u8, rec: Record) -> Text
-    ensures { λ r. ⌜ r ≡ appended emptyText (slotRow block slot rec) ⌝ }
-{
-    let placed = Text::empty().decimal(block).push(b';');
-    columns(placed.decimal(slot as u64).push(b';'), rec)
-}
-
-fn verify_header_text() -> Text
-    ensures { λ r. ⌜ r ≡ appended emptyText verifyHeader ⌝ }
-{
-    Text::empty().append(b"block;offset;state;telegrams\n")
-}
-
 // A block's number and the offset of its first byte.
-fn block_columns(block: u64, offset: u64) -> Text
-    ensures { λ r. ⌜ r ≡ appended emptyText (blockColumns block offset) ⌝ }
+fn block_columns(text: &mut [u8; TEXT_ROOM], len: usize, block: u64, offset: u64) -> usize
+    ensures { λ r. ⌜ textOf (now (text .exit)) r ≡ appended (textOf (now (text .entry)) len) (blockColumns block offset) ⌝ }
 {
-    let numbered = Text::empty().decimal(block).push(b';');
-    numbered.decimal(offset).push(b';')
-}
-
-fn good_text(block: u64, offset: u64, telegrams: u8) -> Text
-    ensures { λ r. ⌜ r ≡ appended emptyText (goodRow block offset telegrams) ⌝ }
-{
-    let good = block_columns(block, offset).append(b"good;");
-    good.decimal(telegrams as u64).push(b'\n')
-}
-
-fn bad_text(block: u64, offset: u64) -> Text
-    ensures { λ r. ⌜ r ≡ appended emptyText (badRow block offset) ⌝ }
-{
-    block_columns(block, offset).append(b"bad;-\n")
-}
-
-fn tail_text(block: u64, offset: u64, number: u8) -> Text
-    ensures { λ r. ⌜ r ≡ appended emptyText (tailRow block offset number) ⌝ }
-{
-    let refused = block_columns(block, offset).append(b"refused ");
-    refused.decimal(number as u64).push(b'\n')
-}
-
-fn bad_line_text(bad: u64) -> Text
-    ensures { λ r. ⌜ r ≡ appended emptyText (badCount bad) ⌝ }
-{
-    let words = Text::empty().append(b"bad ");
-    words.decimal(bad).push(b'\n')
+    let len = decimal(text, len, block);
+    let len = push(text, len, b';');
+    let len = decimal(text, len, offset);
+    push(text, len, b';')
 }
 
 // The first line of the telegrams' listing; 13 for a buffer that is too short.
 pub fn header(out: &mut [u8]) -> RowAnswer
     ensures { λ r. ⌜ laid (done logHeader) (now (out .entry)) ≡ (rowAnswer r, now (out .exit)) ⌝ }
 {
-    header_text().lay(out)
+    let row = b"block;slot;kind;date;time;weekday;status\n";
+    lay(row, row.len(), out)
 }
 
 // The row of the telegram in a slot. A record that no telegram could carry has no row: 5 to 8; then 13 for a buffer that is too short.
@@ -81,47 +42,71 @@ pub fn slot_row(block: u64, slot: u8, rec: Record, out: &mut [u8]) -> RowAnswer
     if refused != NONE {
         return RowAnswer::Refused(refused);
     }
-    slot_text(block, slot, rec).lay(out)
+    let mut text = [0u8; TEXT_ROOM];
+    let len = decimal(&mut text, 0, block);
+    let len = push(&mut text, len, b';');
+    let len = decimal(&mut text, len, slot as u64);
+    let len = push(&mut text, len, b';');
+    let len = columns(&mut text, len, rec);
+    lay(&text, len, out)
 }
 
 // The row of a block that is not read, with the number that refuses it; 13 for a buffer that is too short.
 pub fn block_row(block: u64, number: u8, out: &mut [u8]) -> RowAnswer
     ensures { λ r. ⌜ laid (done (blockRow block number)) (now (out .entry)) ≡ (rowAnswer r, now (out .exit)) ⌝ }
 {
-    refused_row(block, number).lay(out)
+    refused_row(block, number, out)
 }
 
 // The first line of the blocks' listing; 13 for a buffer that is too short.
 pub fn verify_header(out: &mut [u8]) -> RowAnswer
     ensures { λ r. ⌜ laid (done verifyHeader) (now (out .entry)) ≡ (rowAnswer r, now (out .exit)) ⌝ }
 {
-    verify_header_text().lay(out)
+    let row = b"block;offset;state;telegrams\n";
+    lay(row, row.len(), out)
 }
 
 // The row of a good block, with the number of its telegrams; 13 for a buffer that is too short.
 pub fn good_row(block: u64, offset: u64, telegrams: u8, out: &mut [u8]) -> RowAnswer
     ensures { λ r. ⌜ laid (done (goodRow block offset telegrams)) (now (out .entry)) ≡ (rowAnswer r, now (out .exit)) ⌝ }
 {
-    good_text(block, offset, telegrams).lay(out)
+    let mut text = [0u8; TEXT_ROOM];
+    let len = block_columns(&mut text, 0, block, offset);
+    let len = append(&mut text, len, b"good;");
+    let len = decimal(&mut text, len, telegrams as u64);
+    let len = push(&mut text, len, b'\n');
+    lay(&text, len, out)
 }
 
 // The row of a bad block; 13 for a buffer that is too short.
 pub fn bad_row(block: u64, offset: u64, out: &mut [u8]) -> RowAnswer
     ensures { λ r. ⌜ laid (done (badRow block offset)) (now (out .entry)) ≡ (rowAnswer r, now (out .exit)) ⌝ }
 {
-    bad_text(block, offset).lay(out)
+    let mut text = [0u8; TEXT_ROOM];
+    let len = block_columns(&mut text, 0, block, offset);
+    let len = append(&mut text, len, b"bad;-\n");
+    lay(&text, len, out)
 }
 
 // The row of bytes that make no whole block, with the number that refuses them; 13 for a buffer that is too short.
 pub fn tail_row(block: u64, offset: u64, number: u8, out: &mut [u8]) -> RowAnswer
     ensures { λ r. ⌜ laid (done (tailRow block offset number)) (now (out .entry)) ≡ (rowAnswer r, now (out .exit)) ⌝ }
 {
-    tail_text(block, offset, number).lay(out)
+    let mut text = [0u8; TEXT_ROOM];
+    let len = block_columns(&mut text, 0, block, offset);
+    let len = append(&mut text, len, b"refused ");
+    let len = decimal(&mut text, len, number as u64);
+    let len = push(&mut text, len, b'\n');
+    lay(&text, len, out)
 }
 
 // The last line of the blocks' listing: how many are bad; 13 for a buffer that is too short.
 pub fn bad_line(bad: u64, out: &mut [u8]) -> RowAnswer
     ensures { λ r. ⌜ laid (done (badCount bad)) (now (out .entry)) ≡ (rowAnswer r, now (out .exit)) ⌝ }
 {
-    bad_line_text(bad).lay(out)
+    let mut text = [0u8; TEXT_ROOM];
+    let len = append(&mut text, 0, b"bad ");
+    let len = decimal(&mut text, len, bad);
+    let len = push(&mut text, len, b'\n');
+    lay(&text, len, out)
 }

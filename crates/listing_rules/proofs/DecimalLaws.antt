@@ -1,14 +1,14 @@
 -- Laws of decimal digits: they read back as the number, without padding, and they are few. Assumes nothing.
 use mathlib.Core.Path.{_≡_, refl, ap, sym, _∙_}
 use mathlib.Core.Bool.{Bool, true, false}
-use mathlib.Core.List.{List, [], _∷_, _++_}
+use mathlib.Core.List.{List, [], _∷_, _++_, append-assoc}
 use Prim.Native.Nat.{ℕ, zero, suc, _/_, _^_, _≤_, _<_}
 use native.Mathlib.Nat.{pow-suc}
 use native.Mathlib.Omega.{arith}
 use lib.Dec.{ltb}
 use lib.ListN.{length, getD, length-append, List·getD-append}
 use borrow.Author.Tests.{ltb-true, ltb-false, lt-ltb, le-ltb}
-use Rattle.listing_rules.specs.Decimals.{digit, decimalWithin, decimal, valueBehind, valueOf}
+use Rattle.listing_rules.specs.Decimals.{digit, two, decimalWithin, decimal, valueBehind, valueOf}
 
 -- the last digit, or a tenth's digits in front of it
 within-last : (steps n : ℕ) → n < 10 → decimalWithin steps n ≡ digit n ∷ []
@@ -58,6 +58,17 @@ decimal-more zero large = absurd (omega arith)
 decimal-more (suc n) large =
     within-more n (suc n) large
     ∙ ap (λ l. l ++ digit (suc n) ∷ []) (within-same n (suc n / 10) (suc n / 10) (omega arith) (omega arith))
+
+-- two digits at a time
+pub decimal-pair : (n : ℕ) → 10 ≤ n → n < 100 → decimal n ≡ two n
+decimal-pair n some few = decimal-more n some ∙ ap (λ l. l ++ digit n ∷ []) (decimal-last (n / 10) (omega arith))
+
+pub decimal-pairs : (n : ℕ) → 100 ≤ n → decimal n ≡ decimal (n / 100) ++ two n
+decimal-pairs n large =
+    let hundreds : n / 10 / 10 ≡ n / 100 = omega arith in
+    decimal-more n (omega arith)
+    ∙ ap (λ l. l ++ digit n ∷ []) (decimal-more (n / 10) (omega arith) ∙ ap (λ k. decimal k ++ digit (n / 10) ∷ []) hundreds)
+    ∙ append-assoc (decimal (n / 100)) (digit (n / 10) ∷ []) (digit n ∷ [])
 
 -- the digits read back as the number
 value-behind : (before : ℕ) (xs ys : List ℕ) → valueBehind before (xs ++ ys) ≡ valueBehind (valueBehind before xs) ys

@@ -1,11 +1,8 @@
 -- `listing::log_rows::block_columns` meets its contract.
-use Rattle.listing.proofs.TextLaws.{behind, from-empty}
+use Rattle.listing.proofs.TextLaws.{behind}
 use borrow.Author.Needs.{needs}
 use Rattle.listing.proofs.log_rows.block_columns.Statement.{statement}
 use Rattle.listing.proofs.log_rows.block_columns.Tie as tie
-
-empty-requires : tie.Need-empty-requires
-empty-requires c κs = search needs
 
 decimal-requires : tie.Need-decimal-requires
 decimal-requires c κs = search needs
@@ -20,15 +17,8 @@ push-requires-2 : tie.Need-push-requires-2
 push-requires-2 c κs = search needs
 
 returns : tie.Need-returns
-returns c = from-empty _ (c .before .before .before .before .empty .ensures) (behind _ _ _ (behind _ _ _ (behind _ _ _ (c .before .before .before .decimal .ensures) (c .before .before .push .ensures)) (c .before .decimal2 .ensures)) (c .push2 .ensures))
+returns c = behind _ _ _ (behind _ _ _ (behind _ _ _ (c .before .before .before .before .before .before .decimal .ensures) (c .before .before .before .before .push .ensures)) (c .before .before .decimal2 .ensures)) (c .push2 .ensures)
 
 pub block-columns-spec : {M : Type 1} → statement M
 block-columns-spec =
-    tie.close
-    (tie.spec
-    empty-requires
-    decimal-requires
-    push-requires
-    decimal-requires-2
-    push-requires-2
-    returns)
+    tie.close (tie.spec decimal-requires push-requires decimal-requires-2 push-requires-2 returns)

@@ -1,22 +1,63 @@
 -- `listing::log_rows::good_row` meets its contract.
+use mathlib.Core.Path.{sym}
 use native.Mathlib.Omega.{arith}
-use Rattle.listing.proofs.TextLaws.{small-enough, row-laid}
+use Rattle.listing.specs.Texts.{textOf}
+use Rattle.listing_rules.specs.LogRows.{goodRow}
+use Rattle.listing.proofs.TextLaws.{behind, Holds, holds, stands, row-laid}
 use Rattle.listing_rules.proofs.LogRowLaws.{good-short}
 use borrow.Author.Needs.{needs}
 use Rattle.listing.proofs.log_rows.good_row.Statement.{statement}
 use Rattle.listing.proofs.log_rows.good_row.Tie as tie
 
-good-text-requires : tie.Need-good-text-requires
-good-text-requires c κs = search needs
+block-columns-requires : tie.Need-block-columns-requires
+block-columns-requires c κs = search needs
+
+slice-aggregate-append : tie.Need-slice-aggregate-append
+slice-aggregate-append c = search needs
+
+append-requires : tie.Need-append-requires
+append-requires c κs = search needs
+
+decimal-requires : tie.Need-decimal-requires
+decimal-requires c κs = search needs
+
+push-requires : tie.Need-push-requires
+push-requires c κs = search needs
+
+abbrev entry : tie.After-push → tie.Start
+entry c = c .before .before .before .before .before .before .before .before .before .before
+
+-- the text, once all of it stands
+whole : (c : tie.After-push) → Holds (textOf (c .push .last .0) (c .push .result)) (goodRow (entry c .args .block) (entry c .args .offset) (entry c .args .telegrams))
+unfolding goodRow
+whole c =
+    let a = entry c .args in
+    holds _ _ (behind _ _ _ (behind _ _ _ (behind _ _ _ (c .before .before .before .before .before .before .before .block-columns .ensures) (c .before .before .before .before .append .ensures)) (c .before .before .decimal .ensures)) (c .push .ensures)) (omega (arith, good-short (a .block) (a .offset) (omega arith) (omega arith) (a .telegrams) (omega arith)))
+
+slice-aggregate-lay : tie.Need-slice-aggregate-lay
+slice-aggregate-lay c = sym (whole (c .before) .room)
 
 lay-requires : tie.Need-lay-requires
-lay-requires c κs = small-enough _ _ (c .before .good-text .ensures) (omega (arith, good-short (c .before .before .before .args .block) (c .before .before .before .args .offset) (omega arith) (omega arith) (c .before .before .before .args .telegrams) (omega arith)))
+lay-requires c κs = stands (whole (c .before .before))
 
 same-length : tie.Need-same-length
 same-length c = search needs
 
 returns : tie.Need-returns
-returns c = row-laid _ _ (c .before .before .before .before .good-text .ensures) (omega (arith, good-short (c .before .before .before .before .before .before .args .block) (c .before .before .before .before .before .before .args .offset) (omega arith) (omega arith) (c .before .before .before .before .before .before .args .telegrams) (omega arith))) (c .before .before .before .before .before .before .args .out .now) (c .before .before .lay .ensures)
+returns c =
+    let made = c .before .before .before .before .before in
+    row-laid (whole made) (entry made .args .out .now) (c .before .before .lay .ensures)
 
 pub good-row-spec : {M : Type 1} → statement M
-good-row-spec = tie.close (tie.spec good-text-requires lay-requires same-length returns)
+good-row-spec =
+    tie.close
+    (tie.spec
+    block-columns-requires
+    slice-aggregate-append
+    append-requires
+    decimal-requires
+    push-requires
+    slice-aggregate-lay
+    lay-requires
+    same-length
+    returns)

@@ -16,10 +16,10 @@ time-only-columns-requires : tie.Need-time-only-columns-requires
 time-only-columns-requires c κs = search needs
 
 returns : tie.Need-returns
-returns c = rw (c .before .before .rec .given .1) (c .dated-columns .ensures)
+returns c = rw (c .before .before .before .rec .given .1) (c .dated-columns .ensures)
 
 returns-2 : tie.Need-returns-2
-returns-2 c = rw (c .before .before .rec2 .given .1) (c .time-only-columns .ensures)
+returns-2 c = rw (c .before .before .before .rec2 .given .1) (c .time-only-columns .ensures)
 
 pub columns-spec : {M : Type 1} → statement M
 columns-spec =

@@ -1,6 +1,6 @@
 -- `listing::rows::dated_columns` meets its contract.
-use Rattle.listing_rules.specs.Listing.{datedColumns}
 use Rattle.listing.proofs.TextLaws.{behind, as-byte}
+use Rattle.listing_rules.specs.Listing.{datedColumns}
 use borrow.Author.Needs.{needs}
 use Rattle.listing.proofs.rows.dated_columns.Statement.{statement}
 use Rattle.listing.proofs.rows.dated_columns.Tie as tie
@@ -40,11 +40,12 @@ push-requires-6 c κs = search needs
 
 returns : tie.Need-returns
 unfolding datedColumns
-returns c = let kind = behind _ _ _ (c .before .before .before .before .before .before .before .before .before .before .dated-kind .ensures) (c .before .before .before .before .before .before .before .before .before .push .ensures) in
-    let day = behind _ _ _ (behind _ _ _ kind (c .before .before .before .before .before .before .before .before .date-column .ensures)) (c .before .before .before .before .before .before .before .push2 .ensures) in
-    let second = behind _ _ _ (behind _ _ _ day (c .before .before .before .before .before .before .time-column .ensures)) (c .before .before .before .before .before .push3 .ensures) in
-    let week = behind _ _ _ (behind _ _ _ second (as-byte _ (c .before .before .before .before .digit .ensures) (c .before .before .before .push4 .ensures))) (c .before .before .push5 .ensures) in
-    behind _ _ _ (behind _ _ _ week (c .before .status-column .ensures)) (c .push6 .ensures)
+returns c =
+    let kind = behind _ _ _ (c .before .before .before .before .before .before .before .before .before .before .before .before .before .before .before .before .before .before .before .dated-kind .ensures) (c .before .before .before .before .before .before .before .before .before .before .before .before .before .before .before .before .before .push .ensures) in
+    let day = behind _ _ _ (behind _ _ _ kind (c .before .before .before .before .before .before .before .before .before .before .before .before .before .before .before .date-column .ensures)) (c .before .before .before .before .before .before .before .before .before .before .before .before .before .push2 .ensures) in
+    let second = behind _ _ _ (behind _ _ _ day (c .before .before .before .before .before .before .before .before .before .before .before .time-column .ensures)) (c .before .before .before .before .before .before .before .before .before .push3 .ensures) in
+    let week = behind _ _ _ (behind _ _ _ second (as-byte _ (c .before .before .before .before .before .before .before .digit .ensures) (c .before .before .before .before .before .before .push4 .ensures))) (c .before .before .before .before .push5 .ensures) in
+    behind _ _ _ (behind _ _ _ week (c .before .before .status-column .ensures)) (c .push6 .ensures)
 
 pub dated-columns-spec : {M : Type 1} → statement M
 dated-columns-spec =

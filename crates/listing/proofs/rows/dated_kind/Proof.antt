@@ -40,16 +40,16 @@ append-requires-4 : tie.Need-append-requires-4
 append-requires-4 c κs = search needs
 
 returns : tie.Need-returns
-returns c = rw (c .before .before .enum-told .given .1) (c .append .ensures)
+returns c = rw (c .before .before .before .enum-told .given .1) (c .append .ensures)
 
 returns-2 : tie.Need-returns-2
-returns-2 c = rw (c .before .before .enum-told2 .given .1) (c .append2 .ensures)
+returns-2 c = rw (c .before .before .before .enum-told2 .given .1) (c .append2 .ensures)
 
 returns-3 : tie.Need-returns-3
-returns-3 c = rw (c .before .before .enum-told3 .given .1) (c .append3 .ensures)
+returns-3 c = rw (c .before .before .before .enum-told3 .given .1) (c .append3 .ensures)
 
 returns-4 : tie.Need-returns-4
-returns-4 c = rw (c .before .before .enum-told4 .given .1) (c .append4 .ensures)
+returns-4 c = rw (c .before .before .before .enum-told4 .given .1) (c .append4 .ensures)
 
 pub dated-kind-spec : {M : Type 1} → statement M
 dated-kind-spec =

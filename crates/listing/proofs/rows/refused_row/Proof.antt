@@ -1,12 +1,13 @@
 -- `listing::rows::refused_row` meets its contract.
-use Rattle.listing.proofs.TextLaws.{behind, from-empty}
+use mathlib.Core.Path.{sym}
+use native.Mathlib.Omega.{arith}
+use Rattle.listing.specs.Texts.{textOf}
 use Rattle.listing_rules.specs.Listing.{refusedRow}
+use Rattle.listing.proofs.TextLaws.{behind, Holds, holds, stands, row-laid}
+use Rattle.listing_rules.proofs.RowLaws.{refused-short}
 use borrow.Author.Needs.{needs}
 use Rattle.listing.proofs.rows.refused_row.Statement.{statement}
 use Rattle.listing.proofs.rows.refused_row.Tie as tie
-
-empty-requires : tie.Need-empty-requires
-empty-requires c κs = search needs
 
 decimal-requires : tie.Need-decimal-requires
 decimal-requires c κs = search needs
@@ -23,18 +24,40 @@ decimal-requires-2 c κs = search needs
 push-requires : tie.Need-push-requires
 push-requires c κs = search needs
 
-returns : tie.Need-returns
+abbrev entry : tie.After-push → tie.Start
+entry c = c .before .before .before .before .before .before .before .before .before .before
+
+-- the text, once all of it stands
+whole : (c : tie.After-push) → Holds (textOf (c .push .last .0) (c .push .result)) (refusedRow (entry c .args .start) (entry c .args .number))
 unfolding refusedRow
-returns c = from-empty _ (c .before .before .before .before .before .empty .ensures) (behind _ _ _ (behind _ _ _ (behind _ _ _ (c .before .before .before .before .decimal .ensures) (c .before .before .append .ensures)) (c .before .decimal2 .ensures)) (c .push .ensures))
+whole c =
+    let a = entry c .args in
+    holds _ _ (behind _ _ _ (behind _ _ _ (behind _ _ _ (c .before .before .before .before .before .before .before .decimal .ensures) (c .before .before .before .before .append .ensures)) (c .before .before .decimal2 .ensures)) (c .push .ensures)) (omega (arith, refused-short (a .start) (a .number) (omega arith) (omega arith)))
+
+slice-aggregate-lay : tie.Need-slice-aggregate-lay
+slice-aggregate-lay c = sym (whole (c .before) .room)
+
+lay-requires : tie.Need-lay-requires
+lay-requires c κs = stands (whole (c .before .before))
+
+same-length : tie.Need-same-length
+same-length c = search needs
+
+returns : tie.Need-returns
+returns c =
+    let made = c .before .before .before .before .before in
+    row-laid (whole made) (entry made .args .out .now) (c .before .before .lay .ensures)
 
 pub refused-row-spec : {M : Type 1} → statement M
 refused-row-spec =
     tie.close
     (tie.spec
-    empty-requires
     decimal-requires
     slice-aggregate-append
     append-requires
     decimal-requires-2
     push-requires
+    slice-aggregate-lay
+    lay-requires
+    same-length
     returns)

@@ -1,10 +1,8 @@
 -- `listing::rows::row` meets its contract.
 use mathlib.Core.Path.{ap, _∙_}
-use native.Mathlib.Omega.{arith}
 use Rattle.lent_buffer.specs.Laying.{laid}
 use Rattle.listing_rules.specs.Listing.{recordRow, eventRow}
-use Rattle.listing.proofs.TextLaws.{small-enough, row-laid}
-use Rattle.listing_rules.proofs.RowLaws.{rule-refuses, rule-passes, record-short, refused-short}
+use Rattle.listing_rules.proofs.RowLaws.{rule-refuses, rule-passes}
 use borrow.Author.Needs.{needs}
 use Rattle.listing.proofs.rows.row.Statement.{statement}
 use Rattle.listing.proofs.rows.row.Tie as tie
@@ -14,9 +12,6 @@ enum-known-answer c = search needs
 
 refused-row-requires : tie.Need-refused-row-requires
 refused-row-requires c κs = search needs
-
-lay-requires : tie.Need-lay-requires
-lay-requires c κs = small-enough _ _ (c .before .refused-row .ensures) (omega (arith, refused-short (c .before .before .before .before .before .before .args .start) (c .before .before .before .answer .given .0 .0) (omega arith) (omega (arith, c .before .before .known-told .given))))
 
 enum-known-answer-2 : tie.Need-enum-known-answer-2
 enum-known-answer-2 c = search needs
@@ -34,28 +29,24 @@ returns c =
 record-row-requires : tie.Need-record-row-requires
 record-row-requires c κs = search needs
 
-lay-requires-2 : tie.Need-lay-requires-2
-lay-requires-2 c κs = small-enough _ _ (c .before .record-row .ensures) (omega (arith, record-short (c .before .before .before .before .before .before .before .before .args .start) (omega arith) (c .before .before .before .before .before .answer2 .given .0 .0)))
-
 same-length : tie.Need-same-length
 same-length c = search needs
 
 returns-2 : tie.Need-returns-2
 returns-2 c =
-    let a = c .before .before .before .before .before .before .before .before .before .args in
-    ap (λ o. laid (eventRow (a .start) o) (a .out .now)) (c .before .before .before .before .before .before .answer .given .1)
-    ∙ row-laid _ _ (c .before .before .before .before .refused-row .ensures) (omega (arith, refused-short (c .before .before .before .before .before .before .before .before .before .args .start) (c .before .before .before .before .before .before .answer .given .0 .0) (omega arith) (omega (arith, c .before .before .before .before .before .known-told .given)))) (a .out .now) (c .before .before .lay .ensures)
+    let a = c .before .before .before .before .before .before .before .before .args in
+    ap (λ o. laid (eventRow (a .start) o) (a .out .now)) (c .before .before .before .before .before .answer .given .1) ∙ c .before .before .refused-row .ensures
 
 same-length-2 : tie.Need-same-length-2
 same-length-2 c = search needs
 
 returns-3 : tie.Need-returns-3
 returns-3 c =
-    let a = c .before .before .before .before .before .before .before .before .before .before .before .args in
-    let rec = c .before .before .before .before .before .before .before .before .answer2 .given .0 .0 in
-    ap (λ o. laid (eventRow (a .start) o) (a .out .now)) (c .before .before .before .before .before .before .before .before .answer2 .given .1)
-    ∙ ap (λ o. laid o (a .out .now)) (rule-passes rec (recordRow (a .start) rec) _ (c .before .before .before .before .before .before .refusal .ensures) (c .before .before .before .before .before .if1 .left))
-    ∙ row-laid _ _ (c .before .before .before .before .record-row .ensures) (omega (arith, record-short (c .before .before .before .before .before .before .before .before .before .before .before .args .start) (omega arith) (c .before .before .before .before .before .before .before .before .answer2 .given .0 .0))) (a .out .now) (c .before .before .lay2 .ensures)
+    let a = c .before .before .before .before .before .before .before .before .before .before .args in
+    let rec = c .before .before .before .before .before .before .before .answer2 .given .0 .0 in
+    ap (λ o. laid (eventRow (a .start) o) (a .out .now)) (c .before .before .before .before .before .before .before .answer2 .given .1)
+    ∙ ap (λ o. laid o (a .out .now)) (rule-passes rec (recordRow (a .start) rec) _ (c .before .before .before .before .before .refusal .ensures) (c .before .before .before .before .if1 .left))
+    ∙ c .before .before .record-row .ensures
 
 pub row-spec : {M : Type 1} → statement M
 row-spec =
@@ -63,12 +54,10 @@ row-spec =
     (tie.spec
     enum-known-answer
     refused-row-requires
-    lay-requires
     enum-known-answer-2
     refusal-requires
     returns
     record-row-requires
-    lay-requires-2
     same-length
     returns-2
     same-length-2

@@ -10,7 +10,7 @@ append-requires : tie.Need-append-requires
 append-requires c κs = search needs
 
 returns : tie.Need-returns
-returns c = rw (c .before .before .if1 .taken) (c .append .ensures)
+returns c = rw (c .before .before .before .if1 .taken) (c .append .ensures)
 
 slice-aggregate-append-2 : tie.Need-slice-aggregate-append-2
 slice-aggregate-append-2 c = search needs
@@ -19,7 +19,7 @@ append-requires-2 : tie.Need-append-requires-2
 append-requires-2 c κs = search needs
 
 returns-2 : tie.Need-returns-2
-returns-2 c = rw (c .before .before .if1 .left) (c .append2 .ensures)
+returns-2 c = rw (c .before .before .before .if1 .left) (c .append2 .ensures)
 
 pub season-word-spec : {M : Type 1} → statement M
 season-word-spec =

@@ -1,22 +1,59 @@
 -- `listing::rows::stray_line` meets its contract.
-use Rattle.listing.proofs.TextLaws.{small-enough, row-laid}
-use Rattle.listing_rules.proofs.RowLaws.{stray-short}
+use mathlib.Core.Path.{sym}
 use native.Mathlib.Omega.{arith}
+use Rattle.listing.specs.Texts.{textOf}
+use Rattle.listing_rules.specs.Listing.{strayRow}
+use Rattle.listing.proofs.TextLaws.{behind, Holds, holds, stands, row-laid}
+use Rattle.listing_rules.proofs.RowLaws.{stray-short}
 use borrow.Author.Needs.{needs}
 use Rattle.listing.proofs.rows.stray_line.Statement.{statement}
 use Rattle.listing.proofs.rows.stray_line.Tie as tie
 
-stray-row-requires : tie.Need-stray-row-requires
-stray-row-requires c κs = search needs
+slice-aggregate-append : tie.Need-slice-aggregate-append
+slice-aggregate-append c = search needs
+
+append-requires : tie.Need-append-requires
+append-requires c κs = search needs
+
+decimal-requires : tie.Need-decimal-requires
+decimal-requires c κs = search needs
+
+push-requires : tie.Need-push-requires
+push-requires c κs = search needs
+
+abbrev entry : tie.After-push → tie.Start
+entry c = c .before .before .before .before .before .before .before .before
+
+-- the text, once all of it stands
+whole : (c : tie.After-push) → Holds (textOf (c .push .last .0) (c .push .result)) (strayRow (entry c .args .stray))
+unfolding strayRow
+whole c =
+    let a = entry c .args in
+    holds _ _ (behind _ _ _ (behind _ _ _ (c .before .before .before .before .append .ensures) (c .before .before .decimal .ensures)) (c .push .ensures)) (omega (arith, stray-short (a .stray) (omega arith)))
+
+slice-aggregate-lay : tie.Need-slice-aggregate-lay
+slice-aggregate-lay c = sym (whole (c .before) .room)
 
 lay-requires : tie.Need-lay-requires
-lay-requires c κs = small-enough _ _ (c .before .stray-row .ensures) (omega (arith, stray-short (c .before .before .before .args .stray) (omega arith)))
+lay-requires c κs = stands (whole (c .before .before))
 
 same-length : tie.Need-same-length
 same-length c = search needs
 
 returns : tie.Need-returns
-returns c = row-laid _ _ (c .before .before .before .before .stray-row .ensures) (omega (arith, stray-short (c .before .before .before .before .before .before .args .stray) (omega arith))) (c .before .before .before .before .before .before .args .out .now) (c .before .before .lay .ensures)
+returns c =
+    let made = c .before .before .before .before .before in
+    row-laid (whole made) (entry made .args .out .now) (c .before .before .lay .ensures)
 
 pub stray-line-spec : {M : Type 1} → statement M
-stray-line-spec = tie.close (tie.spec stray-row-requires lay-requires same-length returns)
+stray-line-spec =
+    tie.close
+    (tie.spec
+    slice-aggregate-append
+    append-requires
+    decimal-requires
+    push-requires
+    slice-aggregate-lay
+    lay-requires
+    same-length
+    returns)

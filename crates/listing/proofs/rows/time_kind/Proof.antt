@@ -31,13 +31,13 @@ append-requires-3 : tie.Need-append-requires-3
 append-requires-3 c κs = search needs
 
 returns : tie.Need-returns
-returns c = rw (c .before .before .enum-told .given .1) (c .append .ensures)
+returns c = rw (c .before .before .before .enum-told .given .1) (c .append .ensures)
 
 returns-2 : tie.Need-returns-2
-returns-2 c = rw (c .before .before .enum-told2 .given .1) (c .append2 .ensures)
+returns-2 c = rw (c .before .before .before .enum-told2 .given .1) (c .append2 .ensures)
 
 returns-3 : tie.Need-returns-3
-returns-3 c = rw (c .before .before .enum-told3 .given .1) (c .append3 .ensures)
+returns-3 c = rw (c .before .before .before .enum-told3 .given .1) (c .append3 .ensures)
 
 pub time-kind-spec : {M : Type 1} → statement M
 time-kind-spec =

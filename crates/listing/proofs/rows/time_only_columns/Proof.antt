@@ -1,6 +1,6 @@
 -- `listing::rows::time_only_columns` meets its contract.
-use Rattle.listing_rules.specs.Listing.{timeOnlyColumns}
 use Rattle.listing.proofs.TextLaws.{behind}
+use Rattle.listing_rules.specs.Listing.{timeOnlyColumns}
 use borrow.Author.Needs.{needs}
 use Rattle.listing.proofs.rows.time_only_columns.Statement.{statement}
 use Rattle.listing.proofs.rows.time_only_columns.Tie as tie
@@ -25,8 +25,7 @@ append-requires-2 c κs = search needs
 
 returns : tie.Need-returns
 unfolding timeOnlyColumns
-returns c = let kind = behind _ _ _ (c .before .before .before .before .before .time-kind .ensures) (c .before .before .before .append .ensures) in
-    behind _ _ _ (behind _ _ _ kind (c .before .before .time-column .ensures)) (c .append2 .ensures)
+returns c = behind _ _ _ (behind _ _ _ (behind _ _ _ (c .before .before .before .before .before .before .before .before .time-kind .ensures) (c .before .before .before .before .before .append .ensures)) (c .before .before .before .time-column .ensures)) (c .append2 .ensures)
 
 pub time-only-columns-spec : {M : Type 1} → statement M
 time-only-columns-spec =

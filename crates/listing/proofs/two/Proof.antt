@@ -1,8 +1,8 @@
--- `listing::Text::two` meets its contract.
+-- `listing::two` meets its contract.
 use Rattle.listing.proofs.TextLaws.{behind, as-byte}
 use borrow.Author.Needs.{needs}
-use Rattle.listing.proofs.Text.two.Statement.{statement}
-use Rattle.listing.proofs.Text.two.Tie as tie
+use Rattle.listing.proofs.two.Statement.{statement}
+use Rattle.listing.proofs.two.Tie as tie
 
 digit-requires : tie.Need-digit-requires
 digit-requires c κs = search needs
@@ -17,7 +17,7 @@ push-requires-2 : tie.Need-push-requires-2
 push-requires-2 c κs = search needs
 
 returns : tie.Need-returns
-returns c = behind _ _ _ (as-byte _ (c .before .before .before .digit .ensures) (c .before .before .push .ensures)) (as-byte _ (c .before .digit2 .ensures) (c .push2 .ensures))
+returns c = behind _ _ _ (as-byte _ (c .before .before .before .before .digit .ensures) (c .before .before .before .push .ensures)) (as-byte _ (c .before .digit2 .ensures) (c .push2 .ensures))
 
 pub two-spec : {M : Type 1} → statement M
 two-spec =

@@ -1,14 +1,14 @@
--- `listing::Text::append_if` meets its contract.
+-- `listing::append_if` meets its contract.
 use Rattle.listing.specs.Texts.{appended}
 use borrow.Author.Needs.{needs}
-use Rattle.listing.proofs.Text.append_if.Statement.{statement}
-use Rattle.listing.proofs.Text.append_if.Tie as tie
+use Rattle.listing.proofs.append_if.Statement.{statement}
+use Rattle.listing.proofs.append_if.Tie as tie
 
 append-requires : tie.Need-append-requires
 append-requires c κs = search needs
 
 returns : tie.Need-returns
-returns c = rw (c .before .if1 .taken) (c .append .ensures)
+returns c = rw (c .before .before .if1 .taken) (c .append .ensures)
 
 returns-2 : tie.Need-returns-2
 unfolding appended

@@ -1,19 +1,19 @@
--- `listing::Text::append` meets its contract. The loop's invariant: with what is left of the word behind it, the text is whole.
+-- `listing::append` meets its contract. The loop's invariant: with what is left of the word behind it, the text is whole.
 use mathlib.Core.Path.{_≡_, refl, sym, _∙_}
 use Prim.Native.Nat.{_-_}
 use native.Mathlib.Omega.{arith}
 use lib.ListN.{length, drop}
 use borrow.Author.Needs.{needs}
-use Rattle.listing.specs.Texts.{appended}
+use Rattle.listing.specs.Texts.{textOf, appended}
 use Rattle.listing.proofs.TextLaws.{one-more, no-more}
-use Rattle.listing.proofs.Text.append.Statement.{statement}
-use Rattle.listing.proofs.Text.append.Tie as tie
+use Rattle.listing.proofs.append.Statement.{statement}
+use Rattle.listing.proofs.append.Tie as tie
 
 abbrev Inv-loop : tie.InvT-loop
-Inv-loop word text₀ at₀ text at = appended text (drop at word) ≡ appended text₀ word
+Inv-loop text₀ len word end₀ at₀ text end at = appended (textOf text end) (drop at word) ≡ appended (textOf text₀ len) word
 
 abbrev μ-loop : tie.MeasureT-loop
-μ-loop word text₀ at₀ text at = length word - at
+μ-loop text₀ len word end₀ at₀ text end at = length word - at
 
 loop-holds : tie.Need-loop-holds Inv-loop μ-loop
 loop-holds c = refl
@@ -32,12 +32,12 @@ loop-less c = omega arith
 
 loop-again : tie.Need-loop-again Inv-loop μ-loop
 loop-again c =
-    one-more (c .before .before .before .loop .text) _ (c .before .before .before .before .before .args .word .now) (c .before .before .before .loop .at) (c .before .before .loop-test .taken) (c .push .ensures)
-    ∙ c .before .before .before .loop .inv
+    one-more (textOf (c .before .before .before .before .loop .text) (c .before .before .before .before .loop .end)) _ (c .before .before .before .before .before .before .args .word .now) (c .before .before .before .before .loop .at) (c .before .before .before .loop-test .taken) (c .push .ensures)
+    ∙ c .before .before .before .before .loop .inv
 
 returns : tie.Need-returns Inv-loop μ-loop
 returns c =
-    sym (no-more (c .before .loop .text) (c .before .before .before .args .word .now) (c .before .loop .at) (omega arith)) ∙ c .before .loop .inv
+    sym (no-more (textOf (c .before .loop .text) (c .before .loop .end)) (c .before .before .before .args .word .now) (c .before .loop .at) (omega arith)) ∙ c .before .loop .inv
 
 pub append-spec : {M : Type 1} → statement M
 append-spec =
