@@ -87,9 +87,9 @@ pub fn day_number(date: Date) -> DayAnswer
     if refused != NONE {
         return DayAnswer::Refused(refused);
     }
-    let index = 12 * (date.year as usize - 1980) + (date.month as usize - 1);
-    let starts = month_starts();
-    DayAnswer::Day(starts[index] as u32 + (date.day as u32 - 1))
+    let starts = month_starts(date.year);
+    let first = starts[date.month as usize - 1];
+    DayAnswer::Day(first as u32 + (date.day as u32 - 1))
 }
 
 // A month by its place in the table, with its first day's number.
@@ -98,25 +98,20 @@ struct Month {
     first: u32,
 }
 
-// The month that holds a day: halves the months in question until one is left.
+// The month that holds a day: the last of its year that begins no later. Each four years have 1,461 days, and the first is the leap year.
 fn month_holding(day: u32) -> Month
     requires { ⌜ day < 36525 ⌝ }
     ensures { λ r. ⌜ (r .index ≡ monthHolding day) × (r .first ≡ monthStart (monthHolding day)) ⌝ }
 {
-    let starts = month_starts();
-    let mut low = 0;
-    let mut high = 1200;
-    while low + 1 < high {
-        let middle = (low + high) / 2;
-        if day < starts[middle] as u32 {
-            high = middle;
-        } else {
-            low = middle;
-        }
+    let years = 4 * day / 1461;
+    let starts = month_starts((1980 + years) as u16);
+    let mut month = 11;
+    while day < starts[month] as u32 {
+        month -= 1;
     }
     Month {
-        index: low as u32,
-        first: starts[low] as u32,
+        index: 12 * years + month as u32,
+        first: starts[month] as u32,
     }
 }
 

@@ -14,9 +14,8 @@ pub fn day_of_year(date: Date) -> YearDayAnswer
 {
     match day_number(date) {
         DayAnswer::Day(day) => {
-            let january = 12 * (date.year as usize - 1980);
-            let starts = month_starts();
-            YearDayAnswer::Day((day - starts[january] as u32 + 1) as u16)
+            let starts = month_starts(date.year);
+            YearDayAnswer::Day((day - starts[0] as u32 + 1) as u16)
         }
         DayAnswer::Refused(number) => YearDayAnswer::Refused(number),
     }

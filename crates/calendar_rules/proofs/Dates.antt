@@ -1,16 +1,20 @@
 -- Laws of good dates: their day numbers, and the day after. Assumes nothing.
 use mathlib.Core.Path.{_≡_, refl, ap, ap₂, _∙_}
 use mathlib.Core.Bool.{Bool, true, false, cond, not, _&&_, and-false}
+use mathlib.Core.List.{List}
 use Prim.Native.Nat.{ℕ, suc, _+_, _-_, _*_, _≤_, _<_}
 use native.Mathlib.Omega.{arith}
 use lib.Dec.{ltb, eqb}
+use lib.ListN.{getD}
 use borrow.Author.Tests.{leb-true, le-leb, ltb-true, ltb-false, eq-eqb, ne-eqb, eqb-true, not-false}
 use Rattle.refusals.specs.Refusals.{_when_}
 use Rattle.refusals.proofs.Laws.{both, when-none, else-none}
 use Rattle.calendar_rules.specs.Ranges.{inside}
 use Rattle.calendar_rules.specs.Calendar.{monthLength, monthInRange, dateInRange, dayExists, dateRefusal, monthIndex, yearAt, monthAt, monthStart, dayOf, dateAt, dayAfter, isLastDay}
+use Rattle.calendar_rules.specs.TableRows.{IsRow}
 use Rattle.calendar_rules.specs.declared.date.Date.{Date}
 use Rattle.calendar_rules.proofs.Months.{month-28-to-31, start-next, start-order, start-end, holding, Held, held-is-holding}
+use Rattle.calendar_rules.proofs.TableRows.{row-entry}
 
 pub inside-both : (low x high : ℕ) → inside low x high ≡ true → (low ≤ x) × (x ≤ high)
 inside-both low x high e = let h = both _ _ e in (leb-true _ _ (h .0), leb-true _ _ (h .1))
@@ -59,6 +63,10 @@ module _ (date : Date) (g : Good date) where
 
   pub index-within : monthIndex date < 1200
   index-within = omega (arith, g)
+
+  -- the entry for its month in its year's row
+  pub entry-of : (row : List ℕ) → IsRow (date .year) row → getD row (date .month - 1) 0 ≡ monthStart (monthIndex date)
+  entry-of row h = row-entry (date .year) row h (g .from-year) (g .to-year) (date .month - 1) (omega (arith, g))
 
   -- the next month begins where this one ends
   next-start : monthStart (suc (monthIndex date)) ≡ monthStart (monthIndex date) + monthLength (date .year) (date .month)

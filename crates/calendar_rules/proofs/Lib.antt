@@ -1,4 +1,5 @@
 pub mod Months
+pub mod TableRows
 pub mod Dates
 pub mod Times
 pub mod Years

@@ -66,11 +66,13 @@ unfolding monthStarts monthStart
 table-entry table e k h = rw e (table-from 1200 0 k h ∙ ap monthStart (zero-add k))
 
 -- The search for the month that holds a day finds the one that it lies in.
--- a month that begins no later than a day comes no later than the month that the day lies in
+-- a month that begins no later than a day comes before one that begins behind the day
+pub start-before : (day i k : ℕ) → monthStart i ≤ day → day < monthStart k → i < k
+start-before day i k from to = lt-of-not-le (λ past. omega (arith, start-order k i past))
+
+-- and no later than the month that the day lies in
 pub start-below : (day i k : ℕ) → monthStart i ≤ day → day < monthStart (suc k) → i ≤ k
-start-below day i k from to =
-    let h : i < suc k = lt-of-not-le (λ past. omega (arith, start-order (suc k) i past)) in
-    omega arith
+start-below day i k from to = omega (arith, start-before day i (suc k) from to)
 
 module _ (day k : ℕ) (from : monthStart k ≤ day) (to : day < monthStart (suc k)) where
   seek-finds : (months index : ℕ) → index ≤ k → k ≤ index + months → seek months index day ≡ k

@@ -1,17 +1,21 @@
 -- Laws of the day of the year: from where it counts and how far. Assumes nothing.
 use mathlib.Core.Path.{_≡_, refl, ap, ap₂, sym, _∙_}
 use mathlib.Core.Bool.{Bool, true, false, cond}
+use mathlib.Core.List.{List}
 use Prim.Native.Nat.{ℕ, zero, suc, _+_, _-_, _*_, _≤_, _<_}
 use native.Mathlib.Nat.{add-zero, add-suc}
 use native.Mathlib.Omega.{arith}
+use lib.ListN.{getD}
 use Rattle.refusals.specs.Refusals.{done}
 use Rattle.refusals.proofs.Laws.{was-done, does}
 use Rattle.calendar_rules.specs.declared.date.Date.{Date}
 use Rattle.calendar_rules.specs.Literals.{date}
 use Rattle.calendar_rules.specs.Calendar.{isLeap, monthLength, dateRefusal, yearAt, monthAt, monthStart, dayOf, dayNumber, dateAt}
+use Rattle.calendar_rules.specs.TableRows.{IsRow}
 use Rattle.calendar_rules.specs.DayOfYear.{daysOfMonths, yearDay, dayOfYear}
 use Rattle.calendar_rules.specs.YearDays.{yearLength, TheDayOfTheYearCountsFromTheFirstOfJanuary, TheDayOfTheYearLiesInTheYear, TheYearGoesFromJanuaryToDecember, TheDayOfTheYearSaysTheDate}
 use Rattle.calendar_rules.proofs.Months.{start-next}
+use Rattle.calendar_rules.proofs.TableRows.{row-entry}
 use Rattle.calendar_rules.proofs.Dates.{Good, good, not-refused, date-at-day}
 
 -- the place of a year's January in the table
@@ -62,9 +66,6 @@ year-of-366 year = go (isLeap year)
     go false = omega arith
 
 module _ (on : Date) (g : Good on) where
-  pub january-within : january (on .year) < 1200
-  january-within = omega (arith, g)
-
   -- the day of the year, counted from the day number of 1 January
   pub from-january : monthStart (january (on .year)) + yearDay on ≡ dayOf on + 1
   unfolding dayOf yearDay
@@ -102,6 +103,14 @@ pub from-first : (on : Date) (day first : ℕ) → dayNumber on ≡ done day →
 from-first on day first e f =
     let h = numbered on day e in
     omega (arith, f, h .1, from-january on (h .0), year-day-bounds on (h .0) .0)
+
+-- and so does the first entry of the year's row
+pub from-row : (on : Date) (day : ℕ) (row : List ℕ) → dayNumber on ≡ done day → IsRow (on .year) row
+    → (getD row 0 0 ≤ day) × (day - getD row 0 0 + 1 ≡ yearDay on)
+from-row on day row e h =
+    let g = numbered on day e .0 in
+    let first = row-entry (on .year) row h (g .from-year) (g .to-year) 0 (omega arith) in
+    from-first on day (getD row 0 0) e (first ∙ ap monthStart (add-zero (january (on .year))))
 
 -- 1 January and 31 December
 january-number : (year : ℕ) → dayOf (date year 1 1) ≡ monthStart (january year)

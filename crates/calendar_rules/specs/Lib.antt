@@ -1,5 +1,6 @@
 pub mod Ranges
 pub mod Calendar
+pub mod TableRows
 pub mod TimeOfDay
 pub mod DayOfYear
 pub mod Answers

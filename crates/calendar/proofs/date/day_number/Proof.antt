@@ -5,8 +5,8 @@ use borrow.Author.Needs.{needs}
 use Rattle.refusals.specs.Refusals.{unless}
 use Rattle.refusals.proofs.Laws.{refuses}
 use Rattle.calendar_rules.specs.Calendar.{dayNumber, dayOf, monthIndex}
-use Rattle.calendar_rules.proofs.Months.{table-entry, start-bound}
-use Rattle.calendar_rules.proofs.Dates.{good, index-within}
+use Rattle.calendar_rules.proofs.Months.{start-bound}
+use Rattle.calendar_rules.proofs.Dates.{good, index-within, entry-of}
 use Rattle.calendar.proofs.date.day_number.Statement.{statement}
 use Rattle.calendar.proofs.date.day_number.Tie as tie
 
@@ -17,58 +17,49 @@ returns : tie.Need-returns
 unfolding dayNumber
 returns c = refuses _ (c .before .date-refusal .ensures) (c .if1 .taken)
 
-cast-index : tie.Need-cast-index
-cast-index c = search needs
-
-sub-index : tie.Need-sub-index
-sub-index c = good (c .before .before .before .args .date) (sym (c .before .before .date-refusal .ensures) ∙ c .before .if1 .left) .from-year
-
-mul-index : tie.Need-mul-index
-mul-index c = search needs
-
-cast-index-2 : tie.Need-cast-index-2
-cast-index-2 c = search needs
-
-sub-index-2 : tie.Need-sub-index-2
-sub-index-2 c = good (c .before .before .before .before .args .date) (sym (c .before .before .before .date-refusal .ensures) ∙ c .before .before .if1 .left) .from-month
-
-add-index : tie.Need-add-index
-add-index c = search needs
-
 month-starts-requires : tie.Need-month-starts-requires
-month-starts-requires c κs = search needs
+month-starts-requires c κs =
+    let g = good (c .before .before .args .date) (sym (c .before .date-refusal .ensures) ∙ c .if1 .left) in
+    (g .from-year, g .to-year)
 
-mul-t6 : tie.Need-mul-t6
-mul-t6 c = search needs
+cast-first : tie.Need-cast-first
+cast-first c = search needs
 
-array-read-t14 : tie.Need-array-read-t14
-array-read-t14 c =
-    index-within (c .before .before .before .before .before .args .date) (good (c .before .before .before .before .before .args .date) (sym (c .before .before .before .before .date-refusal .ensures) ∙ c .before .before .before .if1 .left))
+sub-first : tie.Need-sub-first
+sub-first c =
+    good (c .before .before .before .before .args .date) (sym (c .before .before .before .date-refusal .ensures) ∙ c .before .before .if1 .left) .from-month
 
-cast-t15 : tie.Need-cast-t15
-cast-t15 c = search needs
+mul-first : tie.Need-mul-first
+mul-first c = search needs
 
-cast-t16 : tie.Need-cast-t16
-cast-t16 c = search needs
+array-read-first : tie.Need-array-read-first
+array-read-first c =
+    omega (arith, good (c .before .before .before .before .args .date) (sym (c .before .before .before .date-refusal .ensures) ∙ c .before .before .if1 .left))
 
-sub-t17 : tie.Need-sub-t17
-sub-t17 c = good (c .before .before .before .before .before .before .args .date) (sym (c .before .before .before .before .before .date-refusal .ensures) ∙ c .before .before .before .before .if1 .left) .from-day
+cast-t13 : tie.Need-cast-t13
+cast-t13 c = search needs
+
+cast-t14 : tie.Need-cast-t14
+cast-t14 c = search needs
+
+sub-t15 : tie.Need-sub-t15
+sub-t15 c =
+    good (c .before .before .before .before .before .args .date) (sym (c .before .before .before .before .date-refusal .ensures) ∙ c .before .before .before .if1 .left) .from-day
 
 -- the table's entry for the date's month, where the date is good
-add-t18 : tie.Need-add-t18
-add-t18 c =
-    let date = c .before .before .before .before .before .before .args .date in
-    let g = good date (sym (c .before .before .before .before .before .date-refusal .ensures) ∙ c .before .before .before .before .if1 .left) in
-    let within = index-within date g in
-    rw (table-entry _ (c .before .month-starts .ensures) (monthIndex date) within) (omega (arith, start-bound (monthIndex date)))
+add-t16 : tie.Need-add-t16
+add-t16 c =
+    let date = c .before .before .before .before .before .args .date in
+    let g = good date (sym (c .before .before .before .before .date-refusal .ensures) ∙ c .before .before .before .if1 .left) in
+    rw (entry-of date g _ (c .before .before .month-starts .ensures))
+    (omega (arith, start-bound (monthIndex date), index-within date g))
 
 returns-2 : tie.Need-returns-2
 unfolding unless dayNumber dayOf
 returns-2 c =
-    let date = c .before .before .before .before .before .before .args .date in
-    let none = sym (c .before .before .before .before .before .date-refusal .ensures) ∙ c .before .before .before .before .if1 .left in
-    let within = index-within date (good date none) in
-    rw (none, table-entry _ (c .before .month-starts .ensures) (monthIndex date) within)
+    let date = c .before .before .before .before .before .args .date in
+    let none = sym (c .before .before .before .before .date-refusal .ensures) ∙ c .before .before .before .if1 .left in
+    rw (none, entry-of date (good date none) _ (c .before .before .month-starts .ensures))
 
 pub day-number-spec : {M : Type 1} → statement M
 day-number-spec =
@@ -76,17 +67,13 @@ day-number-spec =
     (tie.spec
     date-refusal-requires
     returns
-    cast-index
-    sub-index
-    mul-index
-    cast-index-2
-    sub-index-2
-    add-index
     month-starts-requires
-    mul-t6
-    array-read-t14
-    cast-t15
-    cast-t16
-    sub-t17
-    add-t18
+    cast-first
+    sub-first
+    mul-first
+    array-read-first
+    cast-t13
+    cast-t14
+    sub-t15
+    add-t16
     returns-2)

@@ -1,81 +1,75 @@
--- `calendar::date::month_holding` meets its contract. The loop's invariant: the day lies behind the start of the month at
--- `low` and before the start of the one at `high`. The measure is how many months are in question.
-use mathlib.Core.Path.{_≡_, sym, _∙_, ap}
-use Prim.Native.Nat.{suc, _+_, _-_, _/_, _≤_, _<_}
+-- `calendar::date::month_holding` meets its contract. The loop's invariant: the day lies before the start of the month behind
+-- `month`. The measure is `month`.
+use Prim.Native.Nat.{suc, _+_, _*_, _<_}
 use native.Mathlib.Omega.{arith}
 use borrow.Author.Needs.{needs}
 use Rattle.calendar_rules.specs.Calendar.{monthStart}
-use Rattle.calendar_rules.proofs.Months.{start-first, start-end, start-bound, table-entry, holding}
+use Rattle.calendar_rules.proofs.TableRows.{year-to, not-january, month-before, month-found}
 use Rattle.calendar.proofs.date.month_holding.Statement.{statement}
 use Rattle.calendar.proofs.date.month_holding.Tie as tie
 
 abbrev Inv-loop : tie.InvT-loop
-Inv-loop day starts low₀ high₀ low high = (low < high) × (high ≤ 1200) × (monthStart low ≤ day) × (day < monthStart high)
+Inv-loop day years starts month₀ month = (month < 12) × (day < monthStart (suc (12 * years + month)))
 
 abbrev μ-loop : tie.MeasureT-loop
-μ-loop day starts low₀ high₀ low high = high - low
+μ-loop day years starts month₀ month = month
+
+mul-years : tie.Need-mul-years Inv-loop μ-loop
+mul-years c = search needs
+
+add-month-starts : tie.Need-add-month-starts Inv-loop μ-loop
+add-month-starts c = search needs
+
+cast-month-starts : tie.Need-cast-month-starts Inv-loop μ-loop
+cast-month-starts c = search needs
 
 month-starts-requires : tie.Need-month-starts-requires Inv-loop μ-loop
 month-starts-requires c κs = search needs
 
 loop-holds : tie.Need-loop-holds Inv-loop μ-loop
-loop-holds c = (omega arith, omega arith, omega (arith, start-first), omega (arith, start-end))
+loop-holds c = (omega arith, year-to (c .before .args .day) (c .before .pre))
 
-add-loop : tie.Need-add-loop Inv-loop μ-loop
-add-loop c = omega arith
+mul-loop : tie.Need-mul-loop Inv-loop μ-loop
+mul-loop c = search needs
 
-add-middle : tie.Need-add-middle Inv-loop μ-loop
-add-middle c = omega arith
+array-read-loop : tie.Need-array-read-loop Inv-loop μ-loop
+array-read-loop c = search needs
 
-mul-if1 : tie.Need-mul-if1 Inv-loop μ-loop
-mul-if1 c = omega arith
+cast-loop : tie.Need-cast-loop Inv-loop μ-loop
+cast-loop c = search needs
 
-array-read-if1 : tie.Need-array-read-if1 Inv-loop μ-loop
-array-read-if1 c = omega arith
-
-cast-if1 : tie.Need-cast-if1 Inv-loop μ-loop
-cast-if1 c =
-    let middle = (c .before .loop .low + c .before .loop .high) / 2 in
-    rw (table-entry _ (c .before .before .month-starts .ensures) middle (omega arith)) (omega (arith, start-bound middle))
+sub-month : tie.Need-sub-month Inv-loop μ-loop
+sub-month c =
+    not-january (c .before .before .before .args .day) (c .before .before .before .pre) _ (c .before .before .month-starts .ensures) (c .before .loop .month) (c .before .loop .inv .0) (c .loop-test .taken)
 
 loop-less : tie.Need-loop-less Inv-loop μ-loop
-loop-less c = omega arith
+loop-less c = omega (arith, sub-month c)
 
 loop-again : tie.Need-loop-again Inv-loop μ-loop
 loop-again c =
-    let middle = (c .before .before .loop .low + c .before .before .loop .high) / 2 in
-    let start = table-entry _ (c .before .before .before .month-starts .ensures) middle (omega arith) in
-    (omega arith, omega arith, c .before .before .loop .inv .2, omega (arith, start, c .if1 .taken))
+    (omega arith, month-before (c .before .before .before .args .day) (c .before .before .before .pre) _ (c .before .before .month-starts .ensures) (c .before .loop .month) (c .before .loop .inv .0) (c .loop-test .taken))
 
-loop-less-2 : tie.Need-loop-less-2 Inv-loop μ-loop
-loop-less-2 c = omega arith
+mul-t5 : tie.Need-mul-t5 Inv-loop μ-loop
+mul-t5 c = search needs
 
-loop-again-2 : tie.Need-loop-again-2 Inv-loop μ-loop
-loop-again-2 c =
-    let middle = (c .before .before .loop .low + c .before .before .loop .high) / 2 in
-    let start = table-entry _ (c .before .before .before .month-starts .ensures) middle (omega arith) in
-    (omega arith, omega arith, omega (arith, start, c .if1 .left), c .before .before .loop .inv .3)
+cast-t14 : tie.Need-cast-t14 Inv-loop μ-loop
+cast-t14 c = search needs
 
-cast-t13 : tie.Need-cast-t13 Inv-loop μ-loop
-cast-t13 c = omega arith
+add-t15 : tie.Need-add-t15 Inv-loop μ-loop
+add-t15 c = search needs
 
-mul-t14 : tie.Need-mul-t14 Inv-loop μ-loop
-mul-t14 c = omega arith
+mul-t16 : tie.Need-mul-t16 Inv-loop μ-loop
+mul-t16 c = search needs
 
-array-read-t17 : tie.Need-array-read-t17 Inv-loop μ-loop
-array-read-t17 c = omega arith
+array-read-t7 : tie.Need-array-read-t7 Inv-loop μ-loop
+array-read-t7 c = search needs
 
-cast-t18 : tie.Need-cast-t18 Inv-loop μ-loop
-cast-t18 c =
-    let low = c .before .loop .low in
-    rw (table-entry _ (c .before .before .month-starts .ensures) low (omega arith)) (omega (arith, start-bound low))
+cast-t19 : tie.Need-cast-t19 Inv-loop μ-loop
+cast-t19 c = search needs
 
 returns : tie.Need-returns Inv-loop μ-loop
 returns c =
-    let low = c .before .loop .low in
-    let last : c .before .loop .high ≡ suc low = omega arith in
-    let here = holding (c .before .before .before .args .day) low (c .before .loop .inv .2) (rw last at (c .before .loop .inv .3)) (omega arith) in
-    (sym here, table-entry _ (c .before .before .month-starts .ensures) low (omega arith) ∙ ap monthStart (sym here))
+    month-found (c .before .before .before .args .day) (c .before .before .before .pre) _ (c .before .before .month-starts .ensures) (c .before .loop .month) (c .before .loop .inv .0) (c .loop-test .left) (c .before .loop .inv .1)
 
 pub month-holding-spec : {M : Type 1} → statement M
 month-holding-spec =
@@ -83,19 +77,21 @@ month-holding-spec =
     (tie.spec
     Inv-loop
     μ-loop
+    mul-years
+    add-month-starts
+    cast-month-starts
     month-starts-requires
     loop-holds
-    add-loop
-    add-middle
-    mul-if1
-    array-read-if1
-    cast-if1
+    mul-loop
+    array-read-loop
+    cast-loop
+    sub-month
     loop-less
     loop-again
-    loop-less-2
-    loop-again-2
-    cast-t13
-    mul-t14
-    array-read-t17
-    cast-t18
+    mul-t5
+    cast-t14
+    add-t15
+    mul-t16
+    array-read-t7
+    cast-t19
     returns)
