@@ -64,7 +64,7 @@ fn status_in(digits: [u8; SLOTS]) -> u8
 {
     let row = [ST];
     let mut shown = [0u8];
-    places::render(&row, digits, &mut shown);
+    places::render(&row, &digits, &mut shown);
     shown[0]
 }
 

@@ -31,6 +31,6 @@ pub fn write(reply: Reply, out: &mut [u8]) -> WriteAnswer
     }
     let row = row();
     let digits = digits_out(reply);
-    places::render(&row, digits, out);
+    places::render(&row, &digits, out);
     WriteAnswer::Written(PLACES)
 }

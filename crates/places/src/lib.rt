@@ -119,8 +119,8 @@ fn code_character(value: u8) -> u8
     low + 55
 }
 
-fn byte_at(digits: [u8; SLOTS], at: u8) -> u8
-    ensures { λ r. ⌜ r ≡ byteAt digits (place at) ⌝ }
+fn byte_at(digits: &[u8; SLOTS], at: u8) -> u8
+    ensures { λ r. ⌜ r ≡ byteAt (now (digits .entry)) (place at) ⌝ }
 {
     if at < FIRST_DECIMAL {
         return at;
@@ -130,8 +130,8 @@ fn byte_at(digits: [u8; SLOTS], at: u8) -> u8
 }
 
 // Lays the bytes of a row over the first bytes of `out`, as far as it reaches.
-pub fn render(row: &[u8], digits: [u8; SLOTS], out: &mut [u8])
-    ensures { λ _. ⌜ now (out .exit) ≡ over (render (map place (now (row .entry))) digits) (now (out .entry)) ⌝ }
+pub fn render(row: &[u8], digits: &[u8; SLOTS], out: &mut [u8])
+    ensures { λ _. ⌜ now (out .exit) ≡ over (render (map place (now (row .entry))) (now (digits .entry))) (now (out .entry)) ⌝ }
 {
     let mut at = 0;
     while at < row.len() && at < out.len() {

@@ -115,7 +115,7 @@ fn lay_bare(rec: Record, out: &mut [u8]) -> WriteAnswer
     }
     let digits = layouts::coding::digits_out(rec);
     let rows = layouts::rows::rows();
-    places::render(&rows[start..end], digits, out);
+    places::render(&rows[start..end], &digits, out);
     WriteAnswer::Written(length)
 }
 
@@ -133,7 +133,7 @@ fn lay_framed(rec: Record, out: &mut [u8]) -> WriteAnswer
     let digits = layouts::coding::digits_out(rec);
     let rows = layouts::rows::rows();
     out[0] = STX;
-    places::render(&rows[start..end], digits, &mut out[1..]);
+    places::render(&rows[start..end], &digits, &mut out[1..]);
     out[length + 1] = ETX;
     WriteAnswer::Written(length + 2)
 }

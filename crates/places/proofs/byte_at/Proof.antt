@@ -7,18 +7,17 @@ use Rattle.places.proofs.byte_at.Statement.{statement}
 use Rattle.places.proofs.byte_at.Tie as tie
 
 returns : tie.Need-returns
-returns c = sym (ap (byteAt (c .before .args .t1)) (is-fixed _ (c .if1 .taken)))
+returns c = sym (ap (byteAt (c .before .args .digits .now)) (is-fixed _ (c .if1 .taken)))
 
-array-read-code-character : tie.Need-array-read-code-character
-array-read-code-character c = search needs
+element-copy-out-code-character : tie.Need-element-copy-out-code-character
+element-copy-out-code-character c = search needs
 
 code-character-requires : tie.Need-code-character-requires
 code-character-requires c κs = search needs
 
 returns-2 : tie.Need-returns-2
-returns-2 c = by-digit _ (λ p. c .code-character .result ≡ byteAt (c .before .before .args .t1) p) (c .code-character .ensures) (c .code-character .ensures) (c .before .if1 .left)
+returns-2 c = by-digit _ (λ p. c .code-character .result ≡ byteAt (c .before .before .before .args .digits .now) p) (c .code-character .ensures) (c .code-character .ensures) (c .before .before .if1 .left)
 
 pub byte-at-spec : {M : Type 1} → statement M
 byte-at-spec =
-    tie.close
-    (tie.spec returns array-read-code-character code-character-requires returns-2)
+    tie.close (tie.spec returns element-copy-out-code-character code-character-requires returns-2)

@@ -19,7 +19,7 @@ abbrev μ-loop : tie.MeasureT-loop
 μ-loop row digits out₀ at₀ out at = length row - at
 
 loop-holds : tie.Need-loop-holds Inv-loop μ-loop
-loop-holds c = (omega arith, refl, omega arith, laid-none (c .before .before .args .row .now) (c .before .before .args .digits) (c .before .before .args .out .now))
+loop-holds c = (omega arith, refl, omega arith, laid-none (c .before .before .args .row .now) (c .before .before .args .digits .now) (c .before .before .args .out .now))
 
 shared-slice-read-byte-at : tie.Need-shared-slice-read-byte-at Inv-loop μ-loop
 shared-slice-read-byte-at c = omega arith
@@ -41,7 +41,7 @@ loop-again c =
     let inv = c .before .before .before .before .loop .inv in
     let at = c .before .before .before .before .loop .at in
     let room = ltb-true at (length (c .before .before .before .before .loop .out)) (c .before .before .if1 .taken) in
-    let next = laid-next (c .before .before .before .before .before .before .before .args .row .now) (c .before .before .before .before .before .before .before .args .digits) (c .before .before .before .before .before .before .before .args .out .now) at (c .before .before .before .loop-test .taken) (omega arith) in
+    let next = laid-next (c .before .before .before .before .before .before .before .args .row .now) (c .before .before .before .before .before .before .before .args .digits .now) (c .before .before .before .before .before .before .before .args .out .now) at (c .before .before .before .loop-test .taken) (omega arith) in
     (omega arith, simp length-set (inv .1), omega arith, ap₂ (λ o v. set o at v) (inv .3) (c .byte-at .ensures) ∙ next)
 
 same-length : tie.Need-same-length Inv-loop μ-loop
@@ -53,7 +53,7 @@ returns c =
     let full = ltb-false (c .before .before .loop .at) (length (c .before .before .loop .out)) (c .if1 .left) in
     let args = c .before .before .before .before .before .args in
     let end : c .before .before .loop .at ≡ length (args .out .now) = omega arith in
-    inv .3 ∙ ap (laid (args .row .now) (args .digits) (args .out .now)) end ∙ laid-out (args .row .now) (args .digits) (args .out .now) (omega arith)
+    inv .3 ∙ ap (laid (args .row .now) (args .digits .now) (args .out .now)) end ∙ laid-out (args .row .now) (args .digits .now) (args .out .now) (omega arith)
 
 same-length-2 : tie.Need-same-length-2 Inv-loop μ-loop
 same-length-2 c = c .before .loop .inv .1
@@ -63,7 +63,7 @@ returns-2 c =
     let inv = c .before .loop .inv in
     let args = c .before .before .before .before .args in
     let end : c .before .loop .at ≡ length (args .row .now) = omega arith in
-    inv .3 ∙ ap (laid (args .row .now) (args .digits) (args .out .now)) end ∙ laid-row (args .row .now) (args .digits) (args .out .now) (omega arith)
+    inv .3 ∙ ap (laid (args .row .now) (args .digits .now) (args .out .now)) end ∙ laid-row (args .row .now) (args .digits .now) (args .out .now) (omega arith)
 
 pub render-spec : {M : Type 1} → statement M
 render-spec =

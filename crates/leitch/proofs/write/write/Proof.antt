@@ -39,7 +39,7 @@ same-length c = search needs
 
 returns-4 : tie.Need-returns-4
 returns-4 c =
-    ends-written (c .before .before .before .before .before .before .before .before .before .before .before .before .before .args .reply) (c .before .before .before .before .before .before .before .before .before .before .before .before .before .args .out .now) (sym (c .before .before .before .before .before .before .before .before .before .before .before .fields-refusal .ensures) ∙ c .before .before .before .before .before .before .before .before .before .before .if1 .left) (c .before .before .before .before .before .before .before .before .before .if2 .left) (sym (c .before .before .before .before .before .before .before .before .day-refusal .ensures) ∙ c .before .before .before .before .before .before .before .if3 .left) _ _ _ (c .before .before .before .before .before .before .row .ensures) (c .before .before .before .before .before .digits-out .ensures) (c .before .before .render .ensures)
+    ends-written (c .before .before .before .before .before .before .before .before .before .before .before .before .before .before .args .reply) (c .before .before .before .before .before .before .before .before .before .before .before .before .before .before .args .out .now) (sym (c .before .before .before .before .before .before .before .before .before .before .before .before .fields-refusal .ensures) ∙ c .before .before .before .before .before .before .before .before .before .before .before .if1 .left) (c .before .before .before .before .before .before .before .before .before .before .if2 .left) (sym (c .before .before .before .before .before .before .before .before .before .day-refusal .ensures) ∙ c .before .before .before .before .before .before .before .before .if3 .left) _ _ _ (c .before .before .before .before .before .before .before .row .ensures) (c .before .before .before .before .before .before .digits-out .ensures) (c .before .before .render .ensures)
 
 pub write-spec : {M : Type 1} → statement M
 write-spec =
