@@ -1,27 +1,23 @@
 #!/usr/bin/env python3
-"""Counts the instructions that the proved programs and a plain C reader take, as differences of two runs of a program.
+"""Measures the proved programs beside C programs of the same rules, and prints tables: instructions, and on an x86-64 nanoseconds.
 
     python3 -B bench/measure.py
 
-A count is the same on every machine and every run: the emulated processor is fixed, as the C library picks its forms by it, and
-inputs are files, as a pipe is read in pieces of chance. It needs the kit (`rt`), a C compiler for this machine (cc), and an emulator
-with plugins, Debian's package qemu-user. The C reader is compiled by the kit's clang for the program's own target, once as it is and
-once with the C library's memchr for stray bytes.
+It needs the kit (`rt`); for the instructions what bench/counting.py says. First it holds the programs to the second implementation. The
+plain C reader is what one writes without a thought of speed; the tuned C lister is what a good C programmer makes of the listing.
 """
 
-import pathlib
-import platform
-import subprocess
 import sys
 import tempfile
 
-ROOT = pathlib.Path(__file__).resolve().parent.parent
-HERE = ROOT / "bench"
-TELEGRAM = b"\x02E3123456170496\n\r\x03"
+sys.dont_write_bytecode = True  # leaves no files behind
 
-# The emulated processor: an x86-64 without AVX, as the programs are compiled for any x86-64. And one with AVX2, for which the C library
-# has another memchr.
-PROCESSOR, WITH_AVX2 = "qemu64", "Haswell"
+import agree
+import counting
+import timing
+from programs import IS_NATIVE, Programs
+
+TELEGRAM = b"\x02E3123456170496\n\r\x03"
 SLOTS, SLOT = 15, 32
 
 
@@ -32,14 +28,8 @@ def block(used):
     return body + (sum(byte * place for place, byte in enumerate(body, 1)) % 65521).to_bytes(2, "little")
 
 
-# What is counted: the program's letter, one unit of work, and how many units the two runs have.
-WORK = [
-    ("a 6021 telegram read", b"r", TELEGRAM, 1000, 2000),
-    ("a 6021 telegram on a line", b"l", TELEGRAM, 1000, 2000),
-    ("a 6021 telegram written", b"w", TELEGRAM, 1000, 2000),
-    ("an empty block verified", b"v", block(0), 50, 100),
-    ("a full block verified", b"v", block(SLOTS), 50, 100),
-]
+# How many units of work the two runs have whose instructions are counted.
+TELEGRAMS, BLOCKS = (1000, 2000), (50, 100)
 
 # Stray bytes: in one long run of whole blocks of 64; in runs between telegrams that fill no such block, as the difference of two
 # lengths, which the proved reader takes by a loop over bytes; and in a capture of several of the lister's buffers.
@@ -48,112 +38,108 @@ SHORT = 8, 40
 CAPTURE = 4 * 65536, 8 * 65536
 
 
-def run(*command):
-    """Runs a command, and shows what it said where it failed."""
-    done = subprocess.run(command, cwd=ROOT, capture_output=True)
-    if done.returncode != 0:
-        sys.exit(done.stdout.decode() + done.stderr.decode())
-    return done.stdout
+def telegram_work(made):
+    """What is done with a telegram, and the programs that do it: the proved one, the plain one and, where there is one, the tuned one;
+    each with what stands in front of its input."""
+    for name, letter in (("read", b"r"), ("on a line, found and read", b"l"), ("written", b"w")):
+        yield f"a 6021 telegram {name}", [(made.measured, letter), (made.plain, letter)]
+    yield "a 6021 telegram listed", [(made.dialspark, b""), (made.plain, b"p"), (made.tuned, b"")]
 
 
-def toolchain():
-    """The kit's compilers and libraries on this machine."""
-    guide = pathlib.Path(run("rt", "doc").decode().strip())
-    return guide.parent.parent / "on" / platform.machine() / "toolchain"
+# --- tables ---
+
+def head(*columns):
+    print("| " + " | ".join(columns) + " |")
+    print("|" + "---|" * len(columns))
 
 
-class Counter:
-    """Runs programs on the emulated processor, and counts."""
+def cell(cost):
+    return f"{cost:,.0f}" if cost >= 100 else f"{cost:.1f}" if cost >= 10 else f"{cost:.2f}"
 
-    def __init__(self, plugin, library):
-        self.plugin, self.library = plugin, library
 
-    def dynamic(self, program):
-        """The command for a program that is linked with the C library."""
-        return [self.library / "ld-linux-x86-64.so.2", "--library-path", self.library, program]
-
-    def counted(self, command, given, processor=PROCESSOR):
-        """What a program prints for an input, and how many instructions it takes."""
-        with tempfile.TemporaryFile() as handed:
-            handed.write(given)
-            handed.seek(0)
-            done = subprocess.run(["qemu-x86_64", "-cpu", processor, "-plugin", self.plugin, *command], stdin=handed, capture_output=True,
-                                  check=True)
-        return done.stdout, int(done.stderr.split()[-1])
-
-    def cost(self, command, start, unit, few, many, processor=PROCESSOR):
-        """Instructions for one unit of work, and what the two runs print."""
-        first, less = self.counted(command, start + unit * few, processor)
-        second, more = self.counted(command, start + unit * many, processor)
-        return (more - less) / (many - few), (first, second)
-
-    def cost_of_adds(self, command):
-        """Instructions for one of the 15 adds that fill a region of one block: a full one takes none of them."""
-        first, less = self.counted(command, b"a" + block(SLOTS))
-        second, more = self.counted(command, b"a" + block(0))
-        return (more - less) / SLOTS, (first, second)
-
-    def cost_in_a_long_run(self, command, processor=PROCESSOR):
-        """Instructions for a stray byte in a long run."""
-        return self.cost(command, b"l", b"x", *LONG, processor)
-
-    def cost_in_a_short_run(self, command, processor=PROCESSOR):
-        """Instructions for a stray byte in a short run between telegrams."""
-        shorter, longer = (self.cost(command, b"l", TELEGRAM + b"x" * length, 100, 200, processor) for length in SHORT)
-        return (longer[0] - shorter[0]) / (SHORT[1] - SHORT[0]), (shorter[1], longer[1])
+def show(name, proved, *others):
+    """A row: the proved program, and each other with the ratio to it. A row without a tuned program has two empty cells."""
+    cells = [cell(proved)] + [text for other in others for text in (cell(other), f"{proved / other:.1f}")]
+    print("| " + " | ".join([name] + cells + [""] * (5 - len(cells))) + " |")
 
 
 def same(name, costs):
     """The costs, of programs that print the same."""
     if any(printed != costs[0][1] for _, printed in costs):
-        sys.exit(f"{name}: the programs print {[printed for _, printed in costs]}")
+        sys.exit(f"{name}: the programs print different things")
     return [cost for cost, _ in costs]
 
 
-def show(name, *costs):
-    """A row of the counts of the proved program and of a plain one."""
-    ours, theirs = same(name, costs)
-    print(f"{name:34}{ours:9.1f}{theirs:9.1f}{ours / theirs:8.1f}")
+# --- instructions ---
+
+def adds(counter, command):
+    """Instructions for one of the 15 adds that fill a region of one block: a full one takes none of them."""
+    first, less = counter.counted(command, b"a" + block(SLOTS))
+    second, more = counter.counted(command, b"a" + block(0))
+    return (more - less) / SLOTS, (first, second)
 
 
-def show_work(counter, proved, plain):
+def show_instructions(counter, made):
     """The table of all work but stray bytes."""
-    print(f"{'instructions for':34}{'proved':>9}{'plain C':>9}{'ratio':>8}")
-    for name, letter, unit, few, many in WORK:
-        ours = counter.cost(proved, letter, unit, few, many)
-        if letter == b"w":
-            print(f"{name:34}{ours[0]:9.1f}")
-        else:
-            show(name, ours, counter.cost(plain, letter, unit, few, many))
-    show("an add to one block", counter.cost_of_adds(proved), counter.cost_of_adds(plain))
+    head("instructions for", "proved", "plain C", "ratio", "tuned C", "ratio")
+    for name, programs in telegram_work(made):
+        show(name, *same(name, [counter.cost(command, start, TELEGRAM, *TELEGRAMS) for command, start in programs]))
+    both = made.measured, made.plain
+    for name, used in (("an empty block of a log verified", 0), ("a full one, with 15 telegrams", SLOTS)):
+        show(name, *same(name, [counter.cost(command, b"v", block(used), *BLOCKS) for command in both]))
+    name = "an add to a region of one block, on the average of its 15 slots"
+    show(name, *same(name, [adds(counter, command) for command in both]))
 
 
-def show_stray_bytes(counter, proved, plain, searching, lister):
+def in_a_long_run(counter, command, processor=counting.PROCESSOR):
+    """Instructions for a stray byte in a long run."""
+    return counter.cost(command, b"l", b"x", *LONG, processor)
+
+
+def in_a_short_run(counter, command, processor=counting.PROCESSOR):
+    """Instructions for a stray byte in a short run between telegrams."""
+    shorter, longer = (counter.cost(command, b"l", TELEGRAM + b"x" * length, 100, 200, processor) for length in SHORT)
+    return (longer[0] - shorter[0]) / (SHORT[1] - SHORT[0]), (shorter[1], longer[1])
+
+
+def show_stray_bytes(counter, made):
     """The table of stray bytes."""
-    print(f"{'a stray byte':34}{'proved':>9}{'plain C':>9}{'memchr':>9}{'with AVX2':>11}")
-    for name, cost in (("in a long run", counter.cost_in_a_long_run), ("in a short run, by the byte loop", counter.cost_in_a_short_run)):
-        ours, bytewise, by_memchr, by_avx2 = same(name, [cost(proved), cost(plain), cost(searching), cost(searching, WITH_AVX2)])
-        print(f"{name:34}{ours:9.2f}{bytewise:9.2f}{by_memchr:9.2f}{by_avx2:11.2f}")
-    listed, _ = counter.cost(lister, b"", b"x", *CAPTURE)
-    print(f"{'in a capture that is listed':34}{listed:9.2f}")
+    head("instructions for a stray byte", "proved", "plain C", "with `memchr`", "with `memchr` and AVX2")
+    runs = (("in a long run", in_a_long_run), ("in a run that fills no block of 64 bytes, by the loop over bytes", in_a_short_run))
+    for name, cost in runs:
+        costs = same(name, [cost(counter, made.measured), cost(counter, made.plain), cost(counter, made.searching),
+                            cost(counter, made.searching, counting.WITH_AVX2)])
+        print(f"| {name} | " + " | ".join(map(cell, costs)) + " |")
+    listed, _ = counter.cost(made.dialspark, b"", b"x", *CAPTURE)
+    print(f"| in a capture of stray bytes that `dialspark` lists | {cell(listed)} | | | |")
+
+
+# --- times ---
+
+def show_times(made):
+    """The table of nanoseconds."""
+    head("nanoseconds for", "proved", "plain C", "ratio", "tuned C", "ratio")
+    for name, programs in telegram_work(made):
+        show(name, *timing.nanoseconds(TELEGRAM, programs))
 
 
 def main():
-    kit = toolchain()
-    library = kit / "lib"
-    run("rt", "check", "measured", "dialspark")
     with tempfile.TemporaryDirectory() as folder:
-        counting, plain, searching = folder + "/count.so", folder + "/reader", folder + "/searching"
-        run("cc", "-O2", "-shared", "-fPIC", "-o", counting, HERE / "count.c")
-        compiled = [kit / "bin" / "clang", "--target=x86_64-unknown-linux-gnu", "-O2", "-c", "-ffreestanding", "-fno-stack-protector"]
-        run(*compiled, "-o", plain + ".o", HERE / "reader.c")
-        run(kit / "bin" / "ld.lld", "-static", "-o", plain, plain + ".o")
-        run(*compiled, "-DMEMCHR", "-o", searching + ".o", HERE / "reader.c")
-        run(kit / "bin" / "ld.lld", "-o", searching, searching + ".o", library / "libc.so.6")
-        counter = Counter(counting, library)
-        proved, lister = (counter.dynamic(ROOT / "target" / "bin" / name) for name in ("measured", "dialspark"))
-        show_work(counter, proved, [plain])
-        show_stray_bytes(counter, proved, [plain], counter.dynamic(searching), lister)
+        made = Programs(folder)
+        agree.check_all(made)
+        lacking = counting.lacking()
+        if lacking:
+            print(f"No instructions are counted, as {lacking}.")
+        else:
+            counter = counting.Counter(folder)
+            show_instructions(counter, made)
+            print()
+            show_stray_bytes(counter, made)
+        print()
+        if IS_NATIVE:
+            show_times(made)
+        else:
+            print("No times are taken, as this machine is no x86-64.")
 
 
 if __name__ == "__main__":

@@ -1,7 +1,8 @@
 /* A plain C reader of the same telegrams, lines and logs, to be measured beside the proved one: the same seven layouts, the same
    refusals, the same line, the same blocks. It takes what the program `measured` takes, and prints what that prints: a
-   letter, r, l, v or a, and then 6021 telegrams of 18 bytes to read, a line to feed, or a region to verify or to add to. Compiled
-   with MEMCHR it skips stray bytes by the C library's memchr, and without it takes them one by one. */
+   letter, r, w, l, v or a, and then 6021 telegrams of 18 bytes to read or to write anew, a line to feed, or a region to verify or to
+   add to. With the letter p it prints the listing of a line, as `dialspark` does. Compiled with MEMCHR it skips stray bytes by the C
+   library's memchr, and without it takes them one by one. */
 typedef unsigned char byte;
 typedef unsigned int count;
 
@@ -31,7 +32,7 @@ static const struct layout layouts[] = {
 };
 
 struct record {
-    int layout, status, weekday, hour, minute, second, day, month, year, century;
+    int layout, status, weekday, utc, hour, minute, second, day, month, year, century;
 };
 
 static int hex(byte c) {
@@ -96,10 +97,10 @@ static int weekday_of(int day, int month, int year) {
 
 /* Second 60 at the end of a UTC month: 23:59:60 on its last day in UTC, on the next month's first day an hour, in daylight time two,
    behind midnight, but for the calendar's first. */
-static int takes_60(const struct record *r, int year, int daylight, int utc) {
+static int takes_60(const struct record *r, int year, int daylight) {
     if (r->second != 60 || r->minute != 59 || r->month < 1 || r->month > 12 || year < 1980 || year > 2079)
         return 0;
-    if (utc)
+    if (r->utc)
         return r->hour == 23 && r->day == days_in(r->month, year);
     return r->hour == daylight && r->day == 1 && (year != 1980 || r->month != 1);
 }
@@ -108,19 +109,19 @@ static int judge(struct record *r) {
     int late = r->hour > 23 || r->minute > 59 || r->second > 59;
     if (r->layout == L6021T || r->layout == L5500T || r->layout == L5050T)
         return late && (r->hour > 23 || r->minute != 59 || r->second != 60) ? 6 : 0;
-    int daylight, utc;
+    int daylight;
     if (r->layout == L6021 || r->layout == L2000) {
-        daylight = r->status >> 1 & 1, utc = r->weekday >> 3;
+        daylight = r->status >> 1 & 1, r->utc = r->weekday >> 3;
         r->weekday &= 7;
     } else if (r->status > 9) {
         return 5;
     } else {
-        daylight = r->status >> 2 & 1, utc = r->status >> 3;
+        daylight = r->status >> 2 & 1, r->utc = r->status >> 3;
     }
     if (r->weekday < 1 || r->weekday > 7)
         return 5;
     int year = r->layout == L2000 ? 100 * r->century + r->year : r->year + (r->year < 80 ? 2000 : 1900);
-    if (late && !takes_60(r, year, daylight, utc))
+    if (late && !takes_60(r, year, daylight))
         return 6;
     if (r->day < 1 || r->day > 31 || r->month < 1 || r->month > 12 || year < 1980 || year > 2079)
         return 6;
@@ -139,6 +140,33 @@ static int read_telegram(const byte *bytes, int length, struct record *r) {
     r->layout = layout;
     int refusal = scan(&layouts[layout], bytes + 1, r);
     return refusal ? refusal : judge(r);
+}
+
+static void put_two(byte *digits, int number) {
+    digits[0] = '0' + number / 10;
+    digits[1] = '0' + number % 10;
+}
+
+/* Writes a 6021 telegram of local time with STX and ETX, in 18 bytes: 0, or 5 to 8. */
+static int write_6021(struct record *r, byte *bytes) {
+    const struct layout *layout = &layouts[L6021];
+    byte *body = bytes + 1;
+    int refusal = judge(r);
+    if (refusal)
+        return refusal;
+    bytes[0] = STX;
+    body[layout->status] = "0123456789ABCDEF"[r->status];
+    body[layout->weekday] = '0' + r->weekday;
+    put_two(body + layout->hour, r->hour);
+    put_two(body + layout->minute, r->minute);
+    put_two(body + layout->second, r->second);
+    put_two(body + layout->day, r->day);
+    put_two(body + layout->month, r->month);
+    put_two(body + layout->year, r->year);
+    for (int at = 0; at < layout->fixed_size; at += 2)
+        body[layout->fixed[at]] = layout->fixed[at + 1];
+    bytes[17] = ETX;
+    return 0;
 }
 
 struct reader {
@@ -298,9 +326,11 @@ static long system_call(long number, long a, long b, long c) {
     return result;
 }
 
-static byte input[65536];
+/* Input is worked on in pieces of whole telegrams and whole blocks. */
+static byte input[64512], output[65536 + 80];
+static count output_length;
 
-static count read_all(void) {
+static count read_piece(void) {
     count length = 0;
     long got;
     while (length < sizeof input && (got = system_call(0, 0, (long)(input + length), (long)(sizeof input - length))) > 0)
@@ -308,15 +338,113 @@ static count read_all(void) {
     return length;
 }
 
-static void print(count n) {
-    char text[12];
+static void flush(void) {
+    long put;
+    for (count at = 0; at < output_length; at += put)
+        if ((put = system_call(1, 1, (long)(output + at), (long)(output_length - at))) <= 0)
+            break;
+    output_length = 0;
+}
+
+static void put(byte c) {
+    output[output_length++] = c;
+}
+
+static void put_text(const char *text) {
+    while (*text)
+        put(*text++);
+}
+
+static void put_number(count n) {
+    char text[11];
     int at = sizeof text;
-    text[--at] = '\n';
+    text[--at] = 0;
     do
         text[--at] = '0' + n % 10;
     while (n /= 10);
-    system_call(1, 1, (long)(text + at), (long)(sizeof text - at));
+    put_text(text + at);
 }
+
+static void put_digits(int number) {
+    put_two(output + output_length, number);
+    output_length += 2;
+}
+
+/* --- the listing --- */
+
+static void put_status(const struct record *r) {
+    static const char *const receptions[] = {"invalid", "crystal", "radio", "high"};
+    int is_6021 = r->layout == L6021 || r->layout == L2000, status = r->status;
+    put_text(is_6021 ? receptions[status >> 2] : status & 1 ? "crystal" : "radio");
+    put_text((is_6021 ? status >> 1 & 1 : status >> 2 & 1) ? ",daylight" : ",standard");
+    if (r->utc)
+        put_text(",utc");
+    if (is_6021 ? status & 1 : status >> 1 & 1)
+        put_text(",announced");
+}
+
+static void put_record(const struct record *r) {
+    static const char *const kinds[] = {"6021", "6021t", "2000", "5500", "5500t", "5050", "5050t"};
+    int is_dated = layouts[r->layout].status != NONE;
+    put_text(kinds[r->layout]);
+    put(';');
+    if (is_dated) {
+        put_digits(r->layout == L2000 ? r->century : r->year < 80 ? 20 : 19);
+        put_digits(r->year);
+        put('-');
+        put_digits(r->month);
+        put('-');
+        put_digits(r->day);
+    } else {
+        put('-');
+    }
+    put(';');
+    put_digits(r->hour);
+    put(':');
+    put_digits(r->minute);
+    put(':');
+    put_digits(r->second);
+    put(';');
+    put(is_dated ? '0' + r->weekday : '-');
+    put(';');
+    if (is_dated)
+        put_status(r);
+    else
+        put('-');
+}
+
+static void put_row(const struct event *event) {
+    put_number(event->start);
+    put(';');
+    if (event->refusal) {
+        put_text("refused ");
+        put_number(event->refusal);
+    } else {
+        put_record(&event->record);
+    }
+    put('\n');
+    if (output_length > sizeof output - 80)
+        flush();
+}
+
+static void list(void) {
+    struct reader reader = {.length = 0};
+    struct event event;
+    count length, taken;
+    put_text("start;kind;date;time;weekday;status\n");
+    while ((length = read_piece()) > 0)
+        for (count at = 0; at < length; at += taken)
+            if (feed(&reader, input + at, length - at, &taken, &event))
+                put_row(&event);
+    if (reader.length > 0)
+        put_row(&(struct event){.refusal = 11, .start = reader.start});
+    put_text("stray ");
+    put_number(reader.stray);
+    put('\n');
+    flush();
+}
+
+/* --- the other letters --- */
 
 static count good_telegrams(const byte *data, count length) {
     count good = 0;
@@ -324,6 +452,23 @@ static count good_telegrams(const byte *data, count length) {
     for (count at = 0; at + 18 <= length; at += 18)
         good += read_telegram(data + at, 18, &record) == 0;
     return good;
+}
+
+static int number(const byte *digits) {
+    return 10 * (digits[0] % 16) + digits[1] % 16;
+}
+
+/* The records of telegrams of 1980 to 1999, taken as radio time in winter without judging them, go to the output. */
+static void write_telegrams(const byte *data, count length) {
+    for (count at = 0; at + 18 <= length; at += 18) {
+        const byte *body = data + at + 1;
+        struct record record = {.layout = L6021, .status = 8, .weekday = body[1] % 8, .hour = number(body + 2),
+                                .minute = number(body + 4), .second = number(body + 6), .day = number(body + 8),
+                                .month = number(body + 10), .year = number(body + 12)};
+        if (write_6021(&record, output + output_length) == 0)
+            output_length += 18;
+    }
+    flush();
 }
 
 static count events_of(const byte *data, count length) {
@@ -351,10 +496,30 @@ static count work(byte letter, byte *data, count length) {
     }
 }
 
+static void work_on_input(byte letter) {
+    count length, sum = 0;
+    do {
+        length = read_piece();
+        if (letter == 'w')
+            write_telegrams(input, length);
+        else
+            sum += work(letter, input, length);
+    } while (length == sizeof input);
+    if (letter != 'w') {
+        put_number(sum);
+        put('\n');
+        flush();
+    }
+}
+
 /* The stack is where the kernel left it, and not as a call would leave it. */
 __attribute__((force_align_arg_pointer)) void _start(void) {
-    count length = read_all();
-    if (length > 0)
-        print(work(input[0], input + 1, length - 1));
+    byte letter;
+    if (system_call(0, 0, (long)&letter, 1) == 1) {
+        if (letter == 'p')
+            list();
+        else
+            work_on_input(letter);
+    }
     system_call(60, 0, 0, 0);
 }

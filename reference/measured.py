@@ -7,10 +7,10 @@ from refusals import outcome
 
 TELEGRAM = b"\x02E3123456170496\n\r\x03"
 SIZE = len(TELEGRAM)
-ROOM = 65535   # the program reads no more behind the letter
+ROOM = 64512   # bytes that are worked on at a time: whole telegrams and whole blocks
 
-# A telegram that reads well, one that does not, and so on.
-GIVEN = b"r" + (TELEGRAM + TELEGRAM.replace(b"E3", b"E4")) * 5
+# A telegram whose record can be written, one whose weekday is wrong, and so on.
+GIVEN = b"w" + (TELEGRAM + TELEGRAM.replace(b"E3", b"E4")) * 5
 
 
 def reads(telegram):
@@ -18,11 +18,19 @@ def reads(telegram):
     return outcome(telegrams.read_telegram, telegram, True)[1] is None
 
 
-def writes(telegram):
-    """The record of a 6021 telegram of 1980 to 1999, taken as radio time in winter without judging it, can be written."""
+def written(telegram):
+    """The record of a 6021 telegram of 1980 to 1999, taken as radio time in winter without judging it, written anew; nothing where it
+    is refused."""
     record = telegrams.record_of("6021", telegram[1:-1])
     plain = record._replace(reception="radio", daylight=False, utc=False, announced=False, year=1900 + record.year % 100)
-    return outcome(telegrams.write_telegram, plain, bytearray(SIZE), telegrams.Setting(True, False))[1] is None
+    buffer = bytearray(SIZE)
+    refusal = outcome(telegrams.write_telegram, plain, buffer, telegrams.Setting(True, False))[1]
+    return bytes(buffer) if refusal is None else b""
+
+
+def whole_telegrams(piece):
+    """The telegrams of a piece, without what is left behind the last whole one."""
+    return [piece[at:at + SIZE] for at in range(0, len(piece) - SIZE + 1, SIZE)]
 
 
 def events_of(captured):
@@ -48,14 +56,21 @@ def added(region):
     return count
 
 
-def printed(given):
-    """The number that the program prints."""
-    letter, rest = given[:1], given[1:]
+def number_of(letter, piece):
+    """What the work of a letter on one piece is counted as."""
     if letter == b"l":
-        return b"%d\n" % events_of(rest)
+        return events_of(piece)
     if letter == b"v":
-        return b"%d\n" % good_blocks(rest)
+        return good_blocks(piece)
     if letter == b"a":
-        return b"%d\n" % added(bytearray(rest))
-    goes_well = reads if letter == b"r" else writes
-    return b"%d\n" % sum(goes_well(rest[at:at + SIZE]) for at in range(0, len(rest) - SIZE + 1, SIZE))
+        return added(bytearray(piece))
+    return sum(map(reads, whole_telegrams(piece)))
+
+
+def printed(given):
+    """What the program prints: the telegrams that were written, or the sum of the pieces' numbers."""
+    letter, rest = given[:1], given[1:]
+    pieces = [rest[at:at + ROOM] for at in range(0, len(rest), ROOM)]
+    if letter == b"w":
+        return b"".join(written(telegram) for piece in pieces for telegram in whole_telegrams(piece))
+    return b"%d\n" % sum(number_of(letter, piece) for piece in pieces)

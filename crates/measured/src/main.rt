@@ -1,8 +1,9 @@
 // Work to be measured, chosen by the first byte of standard input. The rest is for r and w 6021 telegrams of 18 bytes each, for
 // l any line, and for v and a the region of a log: r reads each telegram, w writes the record of each anew, l feeds the line to a
 // reader, v verifies the region, a adds one telegram to it until that is refused.
-// It prints how often that went well, of a line how many events it has, and of a region the number of its first bad block, or
-// that of all blocks where none is bad.
+// For w it prints the telegrams that were written, so that no byte of them can be left out. For the others it prints how often that
+// went well, of a line how many events it has, and of a region the number of its first bad block, or that of all blocks where none
+// is bad. Input longer than a piece is worked on piece by piece, each for itself, and the numbers of the pieces are added up.
 use calendar::date::Date;
 use calendar::time::Time;
 use libc::STDIN_FILENO;
@@ -20,13 +21,18 @@ use telegram::write::Choice;
 use telegram::write::Setting;
 use telegram::write::WriteAnswer;
 
+const TELEGRAM: usize = 18;
+
+// Whole telegrams and whole blocks.
+const PIECE: usize = 64512;
+
 fn number(tens: u8, ones: u8) -> u8 {
     10 * (tens % 16) + ones % 16
 }
 
 // The record of a telegram of 1980 to 1999 in standard time, taken without judging it.
 fn made(bytes: &[u8]) -> Record {
-    if bytes.len() < 18 {
+    if bytes.len() < TELEGRAM {
         return Record::TimeOnly(
             TimeLayout::T6021,
             Time {
@@ -58,16 +64,34 @@ fn made(bytes: &[u8]) -> Record {
     )
 }
 
-fn writes(rec: Record) -> bool {
-    let mut out = [0u8; 32];
+fn writes(rec: Record, out: &mut [u8]) -> bool {
     let setting = Setting {
         control: true,
         advance: false,
     };
-    match telegram::write::write(rec, Choice::Named(setting), &mut out) {
-        WriteAnswer::Written(_) => out[0] == 2,
+    match telegram::write::write(rec, Choice::Named(setting), out) {
+        WriteAnswer::Written(_) => true,
         WriteAnswer::Refused(_) => false,
     }
+}
+
+// Writes the records one behind another; answers how many bytes they take. Nothing is written where they might not all have room.
+fn write_each(data: &[u8], out: &mut [u8]) -> usize {
+    let length = data.len();
+    if out.len() < length {
+        return 0;
+    }
+    let mut used: usize = 0;
+    let mut at: usize = 0;
+    while at < length && TELEGRAM <= length - at {
+        let end = at + TELEGRAM;
+        let room = used + TELEGRAM;
+        if writes(made(&data[at..end]), &mut out[used..room]) {
+            used = room;
+        }
+        at = end;
+    }
+    used
 }
 
 fn reads(bytes: &[u8]) -> bool {
@@ -77,19 +101,20 @@ fn reads(bytes: &[u8]) -> bool {
     }
 }
 
-fn goes_well(mode: u8, bytes: &[u8]) -> bool {
-    if mode == b'r' {
-        return reads(bytes);
+// Prints the first bytes of what was written.
+fn print_first(out: &[u8], count: usize) {
+    if out.len() < count {
+        return;
     }
-    writes(made(bytes))
+    io::write_all(STDOUT_FILENO, &out[0..count]);
 }
 
-fn each(mode: u8, data: &[u8]) -> u64 {
+fn read_each(data: &[u8]) -> u64 {
     let mut good: u64 = 0;
     let mut at: usize = 0;
-    while at < data.len() && 18 <= data.len() - at {
-        let end = at + 18;
-        if goes_well(mode, &data[at..end]) {
+    while at < data.len() && TELEGRAM <= data.len() - at {
+        let end = at + TELEGRAM;
+        if reads(&data[at..end]) {
             good += 1;
         }
         at = end;
@@ -154,28 +179,56 @@ fn work(mode: u8, data: &mut [u8]) -> u64 {
     if mode == b'a' {
         return added(data);
     }
-    each(mode, data)
+    read_each(data)
 }
 
-// The first bytes of the input, behind the letter.
-fn work_on(input: &mut [u8], length: usize) -> u64 {
-    if length == 0 {
-        return 0;
+// Works on the input piece by piece. Nothing says that it ends, so the turns are counted down from a number that no run uses up. A
+// piece that is not full is the last.
+fn count(mode: u8, piece: &mut [u8]) -> u64 {
+    let size = piece.len();
+    let mut good: u64 = 0;
+    let mut more = true;
+    let mut turns = u64::MAX;
+    while turns > 0 && more {
+        let length = io::read_full(STDIN_FILENO, piece);
+        let some = work(mode, &mut piece[..length]);
+        good = std::num::wrapping_add_u64(good, some);
+        more = length == size;
+        turns -= 1;
     }
-    if length > input.len() {
-        return 0;
+    good
+}
+
+// Writes the input's records anew, piece by piece.
+fn print_written(piece: &mut [u8], out: &mut [u8]) {
+    let size = piece.len();
+    let mut more = true;
+    let mut turns = u64::MAX;
+    while turns > 0 && more {
+        let length = io::read_full(STDIN_FILENO, piece);
+        let used = write_each(&piece[..length], out);
+        print_first(out, used);
+        more = length == size;
+        turns -= 1;
     }
-    let mode = input[0];
-    work(mode, &mut input[1..length])
+}
+
+fn work_on_input(mode: u8, piece: &mut [u8]) {
+    if mode == b'w' {
+        let mut out = io::large_buffer();
+        print_written(piece, &mut out);
+        return;
+    }
+    let good = count(mode, piece);
+    io::print_decimal(STDOUT_FILENO, good);
+    io::write_all(STDOUT_FILENO, b"\n");
 }
 
 fn main() {
-    let mut input = io::large_buffer();
-    let length = io::read_full(STDIN_FILENO, &mut input);
-    if length == 0 {
+    let mut letter = [0u8; 1];
+    if io::read_full(STDIN_FILENO, &mut letter) == 0 {
         return;
     }
-    let good = work_on(&mut input, length);
-    io::print_decimal(STDOUT_FILENO, good);
-    io::write_all(STDOUT_FILENO, b"\n");
+    let mut input = io::large_buffer();
+    work_on_input(letter[0], &mut input[..PIECE]);
 }

@@ -1,17 +1,17 @@
--- `measured::each` is safe and ends: each turn takes 18 bytes.
+-- `measured::read_each` is safe and ends: each turn takes 18 bytes.
 use native.Mathlib.Omega.{arith}
 use borrow.Author.Needs.{needs}
 use Prim.Native.Nat.{_-_, _≤_}
 use lib.ListN.{length}
 use borrow.Author.Tests.{leb-true}
-use Rattle.measured.proofs.each.Statement.{statement}
-use Rattle.measured.proofs.each.Tie as tie
+use Rattle.measured.proofs.read_each.Statement.{statement}
+use Rattle.measured.proofs.read_each.Tie as tie
 
 abbrev Inv-loop : tie.InvT-loop
-Inv-loop mode «data» good₀ at₀ good at = (at ≤ length «data») × (good ≤ at)
+Inv-loop «data» good₀ at₀ good at = (at ≤ length «data») × (good ≤ at)
 
 abbrev μ-loop : tie.MeasureT-loop
-μ-loop mode «data» good₀ at₀ good at = length «data» - at
+μ-loop «data» good₀ at₀ good at = length «data» - at
 
 loop-holds : tie.Need-loop-holds Inv-loop μ-loop
 loop-holds c = omega (arith, leb-true)
@@ -22,17 +22,17 @@ sub-if1 c = omega (arith, leb-true)
 add-end : tie.Need-add-end Inv-loop μ-loop
 add-end c = omega (arith, leb-true)
 
-sub-goes-well : tie.Need-sub-goes-well Inv-loop μ-loop
-sub-goes-well c = omega (arith, leb-true)
+sub-reads : tie.Need-sub-reads Inv-loop μ-loop
+sub-reads c = omega (arith, leb-true)
 
-part-goes-well-start : tie.Need-part-goes-well-start Inv-loop μ-loop
-part-goes-well-start c = omega (arith, leb-true)
+part-reads-start : tie.Need-part-reads-start Inv-loop μ-loop
+part-reads-start c = omega (arith, leb-true)
 
-part-goes-well-end : tie.Need-part-goes-well-end Inv-loop μ-loop
-part-goes-well-end c = omega (arith, leb-true)
+part-reads-end : tie.Need-part-reads-end Inv-loop μ-loop
+part-reads-end c = omega (arith, leb-true)
 
-goes-well-requires : tie.Need-goes-well-requires Inv-loop μ-loop
-goes-well-requires c κs = search needs
+reads-requires : tie.Need-reads-requires Inv-loop μ-loop
+reads-requires c κs = search needs
 
 add-good : tie.Need-add-good Inv-loop μ-loop
 add-good c = omega (arith, leb-true)
@@ -55,8 +55,8 @@ returns c = tt
 returns-2 : tie.Need-returns-2 Inv-loop μ-loop
 returns-2 c = tt
 
-pub each-spec : {M : Type 1} → statement M
-each-spec =
+pub read-each-spec : {M : Type 1} → statement M
+read-each-spec =
     tie.close
     (tie.spec
     Inv-loop
@@ -64,10 +64,10 @@ each-spec =
     loop-holds
     sub-if1
     add-end
-    sub-goes-well
-    part-goes-well-start
-    part-goes-well-end
-    goes-well-requires
+    sub-reads
+    part-reads-start
+    part-reads-end
+    reads-requires
     add-good
     loop-less
     loop-again
