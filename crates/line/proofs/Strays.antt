@@ -1,23 +1,27 @@
--- Laws of feeding outside a telegram: stray bytes are counted at once, and an STX begins a telegram. Assumes nothing.
-use mathlib.Core.Path.{_≡_, refl, ap, sym, _∙_}
-use mathlib.Core.List.{List, [], _∷_}
-use Prim.Native.Nat.{ℕ, suc, _+_, _%_, _^_, _<_}
+-- Laws of feeding outside a telegram: stray bytes are counted at once, an STX begins a telegram, and one that is whole is judged. Assumes nothing.
+use mathlib.Core.Path.{_≡_, refl, ap, ap₂, sym, _∙_}
+use mathlib.Core.Bool.{true}
+use mathlib.Core.List.{List, [], _∷_, _++_}
+use Prim.Native.Nat.{ℕ, suc, _+_, _-_, _%_, _^_, _≤_, _<_}
 use native.Mathlib.Nat.{zero-add}
 use native.Mathlib.Numerals.{add-one}
 use native.Mathlib.Omega.{arith}
-use lib.ListN.{length, drop, drop-of-length-le}
-use lib.Seq.{drop-cons}
-use Rattle.ascii.specs.Control.{stx}
+use lib.ListN.{length, take, drop, getD, length-drop, drop-of-length-le}
+use lib.Seq.{drop-cons, getD-drop, take-suc, length-take-le}
+use Rattle.record_rules.specs.declared.RecordAnswer.{RecordAnswer}
+use Rattle.record_rules.specs.Answers.{recordAnswer}
+use Rattle.ascii.specs.Control.{stx, etx}
 use Rattle.trailer_rules.specs.declared.Order.{Order}
+use Rattle.telegram_rules.specs.Reading.{readIn}
 use Rattle.line.specs.declared.Reader.{Reader}
 use Rattle.line.specs.declared.Fed.{Fed}
-use Rattle.line_rules.specs.declared.Heard.the-variants.{Nothing}
+use Rattle.line_rules.specs.declared.Heard.the-variants.{Nothing, Event}
 use Rattle.line.specs.Readers.{readerOf, fedFor, feedReader}
-use Rattle.line_rules.specs.Line.{lineWith, feedOf}
-use Rattle.line_rules.specs.Runs.{strayRun}
-use Rattle.line_rules.proofs.FeedLaws.{later, outside, feed-stray, feed-start}
-use Rattle.line_rules.proofs.RunLaws.{stray-ends}
-use Rattle.line.proofs.Inside.{reader-wraps}
+use Rattle.line_rules.specs.Line.{places, judgement, lineWith, feedOf, startOf, answerFor}
+use Rattle.line_rules.specs.Runs.{strayRun, roomyRun, WholeAt}
+use Rattle.line_rules.proofs.FeedLaws.{later, outside, feed-stray, feed-start, feed-run}
+use Rattle.line_rules.proofs.RunLaws.{stray-ends, run-within}
+use Rattle.line.proofs.Inside.{reader-wraps, stopped, at-etx, answered}
 use Rattle.line.proofs.Wraps.{alike, feed-reader}
 
 wrapped : (count : ℕ) → count % 2 ^ 32 % 2 ^ 32 ≡ count % 2 ^ 32
@@ -70,3 +74,72 @@ module _ (order : Order) (fed stray : ℕ) (piece : List ℕ) where
       ∙ ap (λ feeding. fedFor (later skipped feeding)) (sym (feed-start order (fed + skipped) (stray + skipped) (drop (suc skipped) piece)))
       ∙ (λ i. fedFor (later skipped (feedOf (outside order (fed + skipped) (stray + skipped)) (sym next i))))
       ∙ sym fed-by-run
+
+  -- a telegram that stands whole in the piece is judged where it stands
+  module _ (begin end : ℕ) (whole : WholeAt piece begin end) where
+    abbrev rest : List ℕ
+    rest = drop (begin + 1) piece
+
+    abbrev plain : ℕ
+    plain = roomyRun 1 rest
+
+    abbrev held : List ℕ
+    held = stx ∷ take plain rest
+
+    few : plain ≤ places - 1
+    few = run-within (places - 1) rest .0
+
+    pub whole-fits : end + 1 - begin ≤ places + 1
+    whole-fits = omega (arith, whole .ends, few)
+
+    more : plain < length rest
+    more = omega (arith, whole .ends, whole .inside, length-drop (begin + 1) piece)
+
+    held-size : length held ≡ plain + 1
+    held-size = omega (arith, length-take-le plain rest (omega (arith, more)))
+
+    begins-so : drop begin piece ≡ stx ∷ rest
+    begins-so =
+        let some : begin < length piece = omega (arith, whole .ends, whole .inside) in
+        let first : getD piece begin 0 ≡ stx = ap (λ k. getD piece k 0) (whole .begins) ∙ stray-ends piece .1 (omega (arith, whole .begins, some)) in
+        drop-cons piece begin 0 some ∙ ap (λ b. b ∷ drop (suc begin) piece) first ∙ ap (λ k. stx ∷ drop k piece) (sym (add-one begin))
+
+    etx-behind : getD rest plain 0 ≡ etx
+    etx-behind = getD-drop (begin + 1) piece plain 0 ∙ ap (λ k. getD piece k 0) (sym (whole .ends)) ∙ whole .ended
+
+    ends-so : drop plain rest ≡ etx ∷ drop (suc plain) rest
+    ends-so = drop-cons rest plain 0 more ∙ ap (λ b. b ∷ drop (suc plain) rest) etx-behind
+
+    -- its bytes are those that would be held, and its ETX
+    telegram-is : take (end + 1 - begin) (drop begin piece) ≡ held ++ etx ∷ []
+    telegram-is =
+        let count : end + 1 - begin ≡ suc (suc plain) = omega (arith, whole .ends) in
+        ap₂ take count begins-so ∙ ap (λ bytes. stx ∷ bytes) (take-suc rest plain 0 more ∙ ap (λ b. take plain rest ++ b ∷ []) etx-behind)
+
+    fed-so : feedOf (outside order (fed + begin) (stray + begin)) (drop begin piece)
+        ≡ later 1 (later plain (stopped (lineWith held (fed + begin + 1 + plain) (stray + begin) order) [] (judgement order held) (length held + 1)))
+    fed-so =
+        ap (feedOf (outside order (fed + begin) (stray + begin))) begins-so
+        ∙ feed-start order (fed + begin) (stray + begin) rest
+        ∙ ap (later 1)
+        (feed-run order (stx ∷ []) (fed + begin + 1) (stray + begin) rest plain (omega arith) (omega arith) refl
+        ∙ ap (λ bytes. later plain (feedOf (lineWith held (fed + begin + 1 + plain) (stray + begin) order) bytes)) ends-so
+        ∙ ap (later plain) (at-etx order (fed + begin + 1 + plain) (stray + begin) (drop (suc plain) rest) held (omega arith)))
+
+    pub whole-read : (after : Reader) (f s start : ℕ) (answer : RecordAnswer)
+        → f ≡ (fed + (end + 1)) % 2 ^ 32 → s ≡ (stray + begin) % 2 ^ 32 → after ≡ readerOf (outside order f s) → start ≡ (fed + begin) % 2 ^ 32
+        → recordAnswer answer ≡ readIn order true (take (end + 1 - begin) (drop begin piece))
+        → record { reader = after; taken = end + 1; heard = Event answer start (end + 1 - begin) } ≡ feedReader (readerOf (outside order fed stray)) piece
+    whole-read after f s start answer is-f is-s is-after is-start is-answer =
+        let fed-sum : fed + (end + 1) ≡ fed + begin + 1 + plain + 1 = omega (arith, whole .ends) in
+        let fed-wraps = moved-so fed f (end + 1) (fed + begin + 1 + plain + 1) is-f fed-sum in
+        let stray-wraps = moved-so stray s begin (stray + begin) is-s refl in
+        let reads = is-after ∙ reader-wraps order [] f (fed + begin + 1 + plain + 1) s (stray + begin) (omega arith) fed-wraps stray-wraps in
+        let taken : end + 1 ≡ 1 + plain + 1 + begin = omega (arith, whole .ends) in
+        let said : answer ≡ answerFor (judgement order held) = answered answer ∙ ap answerFor (is-answer ∙ ap (readIn order true) telegram-is) in
+        let at : start ≡ startOf (lineWith held (fed + begin + 1 + plain) (stray + begin) order) = omega (arith, is-start, held-size, few) in
+        let size : end + 1 - begin ≡ length held + 1 = omega (arith, held-size, whole .ends) in
+        let n = sym (whole .begins) in
+        (λ i. record { reader = reads i; taken = taken i; heard = Event (said i) (at i) (size i) })
+        ∙ ap (λ feeding. fedFor (later begin feeding)) (sym fed-so)
+        ∙ sym (fed-by-run ∙ (λ i. fedFor (later (n i) (feedOf (outside order (fed + n i) (stray + n i)) (drop (n i) piece)))))

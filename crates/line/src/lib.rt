@@ -19,7 +19,7 @@ ghost use mathlib.Core.Path.{_≡_};
 ghost use Rattle.line_rules.specs.declared.Heard.the-variants.{Refused};
 ghost use Rattle.line.specs.Readers.{readerWith, freshIn, freshReader, wellFormed, readerOf, feedReader, endReader, allZero};
 ghost use Rattle.line_rules.specs.Line.{lineWith, isStarted};
-ghost use Rattle.line_rules.specs.Runs.{strayRun};
+ghost use Rattle.line_rules.specs.Runs.{strayRun, WholeAt};
 ghost use Rattle.ascii.specs.Control.{stx};
 ghost use mathlib.Core.Bool.{true};
 ghost use mathlib.Core.List.{[], _∷_};
@@ -225,13 +225,45 @@ fn feed_begun(fed: u32, stray: u32, order: Order, skipped: usize, piece: &[u8]) 
     }
 }
 
+// A telegram that stands whole in the piece, its ETX at `end`: it is read where it stands, and none of its bytes is held.
+fn feed_whole(fed: u32, stray: u32, order: Order, skipped: usize, end: usize, piece: &[u8]) -> Fed
+    requires { ⌜ WholeAt (now piece) skipped end ⌝ }
+    ensures { λ r. ⌜ r ≡ feedReader (readerOf (lineWith [] fed stray order)) (now (piece .entry)) ⌝ }
+{
+    let taken = end + 1;
+    let answer = telegram::read::read_in(&piece[skipped..taken], true, order);
+    let size = taken - skipped;
+    Fed {
+        reader: outside(moved(fed, taken), moved(stray, skipped), order),
+        taken: taken,
+        heard: Heard::Event(answer, moved(fed, skipped), size as u32),
+    }
+}
+
+// Outside a telegram, with an STX behind so many stray bytes: the byte behind the plain ones tells whether a whole telegram stands there.
+fn feed_from_stx(fed: u32, stray: u32, order: Order, skipped: usize, piece: &[u8]) -> Fed
+    requires { ⌜ (skipped ≡ strayRun (now piece)) × (skipped < length (now piece)) ⌝ }
+    ensures { λ r. ⌜ r ≡ feedReader (readerOf (lineWith [] fed stray order)) (now (piece .entry)) ⌝ }
+{
+    let length = piece.len();
+    let first = skipped + 1;
+    let end = first + runs::roomy_run(1, &piece[first..length]);
+    if end == length {
+        return feed_begun(fed, stray, order, skipped, piece);
+    }
+    if piece[end] != ETX {
+        return feed_begun(fed, stray, order, skipped, piece);
+    }
+    feed_whole(fed, stray, order, skipped, end, piece)
+}
+
 // Outside a telegram: the bytes before the first STX are stray, and counted at once. Where telegrams stand one behind another
 // there are none, so the first byte is looked at before any block.
 fn feed_outside(fed: u32, stray: u32, order: Order, piece: &[u8]) -> Fed
     ensures { λ r. ⌜ r ≡ feedReader (readerOf (lineWith [] fed stray order)) (now (piece .entry)) ⌝ }
 {
     if skip::begins_with_stx(piece) {
-        return feed_begun(fed, stray, order, 0, piece);
+        return feed_from_stx(fed, stray, order, 0, piece);
     }
     let skipped = skip::stray_run(piece);
     if skipped == piece.len() {
@@ -241,7 +273,7 @@ fn feed_outside(fed: u32, stray: u32, order: Order, piece: &[u8]) -> Fed
             heard: Heard::Nothing,
         };
     }
-    feed_begun(fed, stray, order, skipped, piece)
+    feed_from_stx(fed, stray, order, skipped, piece)
 }
 
 impl Reader {

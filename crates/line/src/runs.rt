@@ -39,8 +39,23 @@ fn room_behind(len: usize, length: usize) -> usize
     left
 }
 
-// Holds the plain bytes at the front of a piece behind the first `len`, as far as there is room. The room is found first, so that each
-// byte is held against one bound.
+// How many plain bytes stand at the front of a piece, as far as there is room for them behind the first `len`. The room is found first,
+// so that each byte is looked at against one bound.
+pub(crate) fn roomy_run(len: usize, piece: &[u8]) -> usize
+    ensures { λ r. ⌜ r ≡ roomyRun len (now (piece .entry)) ⌝ }
+{
+    let room = room_behind(len, piece.len());
+    let mut at: usize = 0;
+    while at < room {
+        if !is_plain(piece[at]) {
+            return at;
+        }
+        at += 1;
+    }
+    at
+}
+
+// The same, and holds them there as it goes.
 pub(crate) fn gather(held: [u8; PLACES], len: usize, piece: &[u8]) -> Gathered
     ensures added { λ r. ⌜ r .added ≡ roomyRun len (now (piece .entry)) ⌝ }
     ensures laid { λ r. ⌜ r .held ≡ paste held len (now (piece .entry)) (roomyRun len (now (piece .entry))) ⌝ }

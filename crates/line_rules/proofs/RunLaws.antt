@@ -29,11 +29,19 @@ module _ (piece : List ℕ) (at : ℕ) where
   run-end : (end : ℕ) → length piece ≤ at → roomyRun end (drop at piece) ≡ 0
   run-end end h = rw (drop-of-length-le piece h) (ap plainRun (take-nil (places - end)))
 
-  pub run-byte : (end : ℕ) → end < places → at < length piece
+  run-byte : (end : ℕ) → end < places → at < length piece
       → roomyRun end (drop at piece) ≡ cond (isPlain (getD piece at 0)) (suc (roomyRun (end + 1) (drop (at + 1) piece))) 0
   run-byte end room h =
       let one-less : places - end ≡ suc (places - (end + 1)) = omega arith in
       rw (drop-cons piece at 0 h, add-one at) (ap (λ n. plainRun (take n (getD piece at 0 ∷ drop (suc at) piece))) one-less)
+
+  -- a plain byte is one more, and any other ends the run
+  pub run-on : (end : ℕ) → end < places → at < length piece → isPlain (getD piece at 0) ≡ true
+      → roomyRun end (drop at piece) ≡ suc (roomyRun (end + 1) (drop (at + 1) piece))
+  run-on end room h plain = run-byte end room h ∙ ap (λ t. cond t (suc (roomyRun (end + 1) (drop (at + 1) piece))) 0) plain
+
+  pub run-stops : (end : ℕ) → end < places → at < length piece → isPlain (getD piece at 0) ≡ false → roomyRun end (drop at piece) ≡ 0
+  run-stops end room h other = run-byte end room h ∙ ap (λ t. cond t (suc (roomyRun (end + 1) (drop (at + 1) piece))) 0) other
 
 run-full : (piece : List ℕ) (end : ℕ) → places ≤ end → roomyRun end piece ≡ 0
 run-full piece end full =

@@ -10,8 +10,8 @@ use Rattle.line.proofs.feed_outside.Tie as tie
 begins-with-stx-requires : tie.Need-begins-with-stx-requires
 begins-with-stx-requires c κs = search needs
 
-feed-begun-requires : tie.Need-feed-begun-requires
-feed-begun-requires c κs = begins-at-once (c .before .before .before .args .piece .now) (sym (c .before .begins-with-stx .ensures) ∙ c .if1 .taken)
+feed-from-stx-requires : tie.Need-feed-from-stx-requires
+feed-from-stx-requires c κs = begins-at-once (c .before .before .before .args .piece .now) (sym (c .before .begins-with-stx .ensures) ∙ c .if1 .taken)
 
 returns : tie.Need-returns
 returns c = search needs
@@ -33,8 +33,8 @@ returns-2 c =
     let start = c .before .before .before .before .before .before .before .before in
     outside-all (start .args .order) (start .args .fed) (start .args .stray) (start .args .piece .now) _ _ _ _ (c .before .before .before .before .stray-run .ensures) (c .before .before .before .if2 .taken) (c .before .before .moved .ensures) (c .before .moved2 .ensures) (c .outside .ensures)
 
-feed-begun-requires-2 : tie.Need-feed-begun-requires-2
-feed-begun-requires-2 c κs =
+feed-from-stx-requires-2 : tie.Need-feed-from-stx-requires-2
+feed-from-stx-requires-2 c κs =
     let run = c .before .stray-run .ensures in
     (run, omega (arith, run, stray-ends (c .before .before .before .before .before .args .piece .now) .0))
 
@@ -46,12 +46,12 @@ feed-outside-spec =
     tie.close
     (tie.spec
     begins-with-stx-requires
-    feed-begun-requires
+    feed-from-stx-requires
     returns
     stray-run-requires
     moved-requires
     moved-requires-2
     outside-requires
     returns-2
-    feed-begun-requires-2
+    feed-from-stx-requires-2
     returns-3)

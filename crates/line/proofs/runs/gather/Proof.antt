@@ -2,15 +2,14 @@
 use native.Mathlib.Omega.{arith}
 use borrow.Author.Needs.{needs}
 use mathlib.Core.Path.{_≡_, ap, ap₂, sym, _∙_}
-use mathlib.Core.Bool.{cond}
-use Prim.Native.Nat.{suc, _+_, _-_, _≤_, _<_}
+use Prim.Native.Nat.{_+_, _-_, _≤_, _<_}
 use lib.ListN.{length, drop, getD, set}
 use lib.Seq.{paste, paste-zero, paste-suc}
 use borrow.Author.Tests.{not-true, not-false}
 use native.Mathlib.Numerals.{add-one}
 use Rattle.line_rules.specs.Runs.{roomyRun}
 use Rattle.line_rules.specs.Line.{places}
-use Rattle.line_rules.proofs.RunLaws.{run-byte, run-over}
+use Rattle.line_rules.proofs.RunLaws.{run-on, run-stops, run-over}
 use Rattle.line.proofs.runs.gather.Statement.{statement}
 use Rattle.line.proofs.runs.gather.Tie as tie
 
@@ -44,8 +43,7 @@ returns c =
     let all : l .at ≡ roomyRun (start .len) piece =
     omega (
       arith,
-      run-byte piece (l .at) (l .end) (omega (arith, room, l .inv .0)) (omega (arith, room))
-          ∙ ap (λ t. cond t (suc (roomyRun (l .end + 1) (drop (l .at + 1) piece))) 0) (sym (c .before .is-plain .ensures) ∙ not-true _ (c .if1 .taken)),
+      run-stops piece (l .at) (l .end) (omega (arith, room, l .inv .0)) (omega (arith, room)) (sym (c .before .is-plain .ensures) ∙ not-true _ (c .if1 .taken)),
       l .inv .3,
     ) in
     (all, l .inv .2 ∙ ap (paste (start .held) (start .len) piece) all)
@@ -73,9 +71,7 @@ loop-again c =
     let size : length held ≡ places = omega (arith, c .before .before .before .before .before .before .before .good) in
     let free : l .end < places = omega (arith, room, l .inv .0) in
     let more : l .at < length piece = omega (arith, room) in
-    let here =
-    run-byte piece (l .at) (l .end) free more
-    ∙ ap (λ t. cond t (suc (roomyRun (l .end + 1) (drop (l .at + 1) piece))) 0) (sym (c .before .is-plain .ensures) ∙ not-false _ (c .if1 .left)) in (
+    let here = run-on piece (l .at) (l .end) free more (sym (c .before .is-plain .ensures) ∙ not-false _ (c .if1 .left)) in (
       omega (arith, l .inv .0),
       omega arith,
       ap₂ (λ all end. set all end (getD piece (l .at) 0)) (l .inv .2) (l .inv .0)
