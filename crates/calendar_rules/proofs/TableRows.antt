@@ -85,7 +85,7 @@ module _ (day : ℕ) (within : day < 36525) where
     here : getD row k 0 ≡ monthStart (12 * yearsTo day + k)
     here = ap (λ r. getD r k 0) (is-row-of _ row h) ∙ entry (yearsTo day) k (omega arith) below
 
-    -- where the day lies before the month, there is one before it, and the day lies before this one's start
+    -- where the day lies before the month, it is not January, and the day lies before the end of the one before
     pub not-january : day < getD row k 0 → 1 ≤ k
     not-january before =
         omega (arith, start-before day (12 * yearsTo day) (12 * yearsTo day + k) year-from (rw here at before))
