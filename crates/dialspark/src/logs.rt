@@ -1,5 +1,7 @@
 // A log's file, block by block: its telegrams listed, or its blocks verified.
 use super::is_whole;
+use super::reads;
+use super::reads::Got;
 use super::tell;
 use listing::LONGEST_LOG_ROW;
 use listing::RowAnswer;
@@ -31,34 +33,22 @@ struct Progress {
     more: bool,
 }
 
-// Whether a read failed, which is told. One that a signal broke off is made again.
-fn failed(got: isize) -> bool {
-    if got >= 0 {
-        return false;
-    }
-    if os::errno() == libc::EINTR {
-        return false;
-    }
-    os::fail(b"dialspark: the log cannot be read");
-    true
-}
-
-// As many reads as it takes, so that a log may also come through a pipe. The turns are counted down from a number that no run
-// uses up.
+// As many reads as it takes, so that a log may also come through a pipe.
 fn fill(file: i32, block: &mut [u8]) -> Filled {
     let length = block.len();
     let mut done: usize = 0;
-    let mut turns = u64::MAX;
-    while turns > 0 && done < length {
-        let got = libc::read(file, &mut block[done..]);
-        if failed(got) {
-            return Filled::Failed;
+    while done < length {
+        match reads::next(
+            file,
+            &mut block[done..],
+            b"dialspark: the log cannot be read",
+        ) {
+            Got::Bytes(count) => {
+                done += count;
+            }
+            Got::End => return Filled::Ended(done),
+            Got::Failed => return Filled::Failed,
         }
-        if got == 0 {
-            return Filled::Ended(done);
-        }
-        done += io::count(got, &block[done..]);
-        turns -= 1;
     }
     Filled::Whole
 }

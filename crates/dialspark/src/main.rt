@@ -1,18 +1,20 @@
 // Lists a captured line, or a log: a file that is named, or standard input, to its end, in pieces as they come. The listing goes to
 // standard output; what went wrong is told on standard error.
+mod help;
 mod logs;
+mod reads;
 mod words;
 
+use command_line::Asked;
+use command_line::Source;
+use command_line::Wanted;
 use libc::STDERR_FILENO;
 use libc::STDIN_FILENO;
-use libc::STDOUT_FILENO;
 use listing_output::Output;
 use listing_output::Printer;
 use logs::Rows;
+use reads::Got;
 use trailer::Order;
-use words::Asked;
-use words::Source;
-use words::Wanted;
 
 // The printer, and whether there may be more to read.
 struct Turn {
@@ -39,36 +41,27 @@ pub(crate) fn tell(output: Output) {
     }
 }
 
-// A read that a signal broke off is made again; any other failure ends the listing, which then has no count of stray bytes.
-fn failed(printer: Printer) -> Turn {
-    let again = os::errno() == libc::EINTR;
-    if !again {
-        os::fail(b"dialspark: the capture cannot be read");
-    }
+// Behind a piece there is more to read where its rows went out.
+fn behind(printer: Printer) -> Turn {
+    let output = printer.output;
     Turn {
         printer: printer,
-        more: again,
+        more: is_whole(output),
     }
 }
 
-// One read, of as many bytes as are there and have room.
+// One read, of as many bytes as are there and have room. Where it fails the listing ends without its count of stray bytes.
 fn next(capture: i32, printer: Printer, buffer: &mut [u8]) -> Turn {
-    let got = libc::read(capture, buffer);
-    if got < 0 {
-        return failed(printer);
-    }
-    if got == 0 {
-        return Turn {
+    match reads::next(capture, buffer, b"dialspark: the capture cannot be read") {
+        Got::Bytes(count) => behind(printer.piece(&buffer[..count])),
+        Got::End => Turn {
             printer: printer.end(),
             more: false,
-        };
-    }
-    let count = io::count(got, buffer);
-    let after = printer.piece(&buffer[..count]);
-    let output = after.output;
-    Turn {
-        printer: after,
-        more: is_whole(output),
+        },
+        Got::Failed => Turn {
+            printer: printer,
+            more: false,
+        },
     }
 }
 
@@ -104,7 +97,7 @@ fn list_file(wanted: Wanted, name: &[u8]) {
     if file < 0 {
         io::write_all(STDERR_FILENO, b"dialspark: ");
         os::fail(name);
-        words::usage(STDERR_FILENO);
+        help::usage();
         return;
     }
     list_wanted(wanted, file);
@@ -127,7 +120,8 @@ fn list_source(wanted: Wanted, source: Source) {
 fn main() {
     match words::read() {
         Asked::Listing(wanted, source) => list_source(wanted, source),
-        Asked::Help => words::usage(STDOUT_FILENO),
-        Asked::Nothing => words::usage(STDERR_FILENO),
+        Asked::Help => help::help(),
+        Asked::Version => help::version(),
+        Asked::Refused(fault) => words::refuse(fault),
     }
 }

@@ -14,17 +14,14 @@ abbrev μ-loop : tie.MeasureT-loop
 arg-count-requires : tie.Need-arg-count-requires Inv-loop μ-loop
 arg-count-requires c κs = search needs
 
+no-word-requires : tie.Need-no-word-requires Inv-loop μ-loop
+no-word-requires c κs = search needs
+
 loop-holds : tie.Need-loop-holds Inv-loop μ-loop
 loop-holds c = tt
 
 with-place-requires : tie.Need-with-place-requires Inv-loop μ-loop
 with-place-requires c κs = search needs
-
-is-settled-requires : tie.Need-is-settled-requires Inv-loop μ-loop
-is-settled-requires c κs = search needs
-
-returns : tie.Need-returns Inv-loop μ-loop
-returns c = tt
 
 add-place : tie.Need-add-place Inv-loop μ-loop
 add-place c = omega arith
@@ -35,8 +32,8 @@ loop-less c = omega arith
 loop-again : tie.Need-loop-again Inv-loop μ-loop
 loop-again c = tt
 
-returns-2 : tie.Need-returns-2 Inv-loop μ-loop
-returns-2 c = tt
+returns : tie.Need-returns Inv-loop μ-loop
+returns c = tt
 
 pub read-spec : {M : Type 1} → statement M
 read-spec =
@@ -45,11 +42,10 @@ read-spec =
     Inv-loop
     μ-loop
     arg-count-requires
+    no-word-requires
     loop-holds
     with-place-requires
-    is-settled-requires
-    returns
     add-place
     loop-less
     loop-again
-    returns-2)
+    returns)

@@ -1,0 +1,4 @@
+pub mod WordLaws
+pub mod AskingHolds
+pub mod ExactlyHolds
+pub mod AsPrintedHolds

@@ -1,0 +1,54 @@
+-- `command_line::listing_word` meets its contract: the first option that the word is, or what is left.
+use mathlib.Core.Path.{sym, _∙_}
+use borrow.Author.Needs.{needs}
+use Rattle.command_line.proofs.listing_word.Statement.{statement}
+use Rattle.command_line.proofs.listing_word.Tie as tie
+
+slice-aggregate-is-same : tie.Need-slice-aggregate-is-same
+slice-aggregate-is-same c = search needs
+
+is-same-requires : tie.Need-is-same-requires
+is-same-requires c κs = search needs
+
+returns : tie.Need-returns
+returns c = rw (sym (c .before .is-same .ensures) ∙ c .if1 .taken)
+
+slice-aggregate-is-same-2 : tie.Need-slice-aggregate-is-same-2
+slice-aggregate-is-same-2 c = search needs
+
+is-same-requires-2 : tie.Need-is-same-requires-2
+is-same-requires-2 c κs = search needs
+
+returns-2 : tie.Need-returns-2
+returns-2 c = rw (sym (c .before .before .before .before .is-same .ensures) ∙ c .before .before .before .if1 .left, sym (c .before .is-same2 .ensures) ∙ c .if2 .taken)
+
+slice-aggregate-is-same-3 : tie.Need-slice-aggregate-is-same-3
+slice-aggregate-is-same-3 c = search needs
+
+is-same-requires-3 : tie.Need-is-same-requires-3
+is-same-requires-3 c κs = search needs
+
+returns-3 : tie.Need-returns-3
+returns-3 c = rw (sym (c .before .before .before .before .before .before .before .is-same .ensures) ∙ c .before .before .before .before .before .before .if1 .left, sym (c .before .before .before .before .is-same2 .ensures) ∙ c .before .before .before .if2 .left, sym (c .before .is-same3 .ensures) ∙ c .if3 .taken)
+
+other-word-requires : tie.Need-other-word-requires
+other-word-requires c κs = search needs
+
+returns-4 : tie.Need-returns-4
+returns-4 c = rw (sym (c .before .before .before .before .before .before .before .before .is-same .ensures) ∙ c .before .before .before .before .before .before .before .if1 .left, sym (c .before .before .before .before .before .is-same2 .ensures) ∙ c .before .before .before .before .if2 .left, sym (c .before .before .is-same3 .ensures) ∙ c .before .if3 .left) (c .other-word .ensures)
+
+pub listing-word-spec : {M : Type 1} → statement M
+listing-word-spec =
+    tie.close
+    (tie.spec
+    slice-aggregate-is-same
+    is-same-requires
+    returns
+    slice-aggregate-is-same-2
+    is-same-requires-2
+    returns-2
+    slice-aggregate-is-same-3
+    is-same-requires-3
+    returns-3
+    other-word-requires
+    returns-4)

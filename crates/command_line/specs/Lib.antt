@@ -1,0 +1,4 @@
+pub mod Words
+pub mod Asking
+pub mod Exactly
+pub mod AsPrinted
