@@ -8,12 +8,14 @@ from runs import program
 from runs.program import EXCHANGED_WORD, LOG_WORDS
 
 USAGE = b"usage: dialspark [--help | --version] [--exchanged | --verify | --log] [FILE]\n"
-VERSION = re.compile(rb"dialspark \d+\.\d+\.\d+\n")
 TOLD = b"dialspark: "
 HELP_WORDS = ["--help", "-h"]
 LISTING_WORDS = [EXCHANGED_WORD, *LOG_WORDS]
 NAME_LIMIT = 4095
 WIDTH = 17   # of the help's column of words
+
+# The heading of a note in docs/CHANGES.md: its version, and what the note is of. The newest stands first.
+NOTE = re.compile(r"^## (\d[\d.]*): ", re.M)
 
 # The definition's rows of options, as ("--help", Help).
 OPTION = re.compile(r'\("(-[-\w]+)", ')
@@ -95,10 +97,10 @@ def check_help(sample):
 
 
 def check_version(sample):
-    """The name and a version, whatever else is asked for behind it."""
+    """The name and the version that heads the newest note, whatever else is asked for behind it."""
+    newest = NOTE.search((program.ROOT / "docs" / "CHANGES.md").read_text(encoding="utf-8"))[1]
     for words in ["--version"], ["--version", "--help"], [str(sample), "--version"]:
-        if not VERSION.fullmatch(printed(words)):
-            program.fail(f"{words}: {printed(words)!r}, which is no name with a version")
+        program.same(f"{words}", printed(words), f"dialspark {newest}\n".encode())
 
 
 def check(sample):

@@ -3,7 +3,7 @@ use libc::STDERR_FILENO;
 use libc::STDOUT_FILENO;
 
 // The version stands here and nowhere else.
-const VERSION: [u8; 16] = *b"dialspark 4.7.0\n";
+const VERSION: [u8; 16] = *b"dialspark 4.7.1\n";
 
 const USAGE: [u8; 78] =
     *b"usage: dialspark [--help | --version] [--exchanged | --verify | --log] [FILE]\n";
@@ -30,7 +30,7 @@ pub(crate) fn help() {
   --log          FILE is a log: a row for each telegram of the good blocks
   --help, -h     prints this text
   --version      prints the program's name and version
-A file whose name begins with -- is named as ./--NAME. What goes wrong is told on standard error.
+A file named -h, or whose name begins with --, is given as ./NAME. What goes wrong is told on standard error.
 ",
         );
     }
