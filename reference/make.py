@@ -17,6 +17,7 @@ import measured
 import months
 import sample_logs
 import samples
+from cases.seen import SEEN
 
 ROOT = pathlib.Path(__file__).resolve().parent.parent
 
@@ -24,7 +25,7 @@ ROOT = pathlib.Path(__file__).resolve().parent.parent
 def made():
     """Each file with its content."""
     every = list(cases.all_cases())
-    cases.SEEN.check()
+    SEEN.check()
     yield "crates/test_cases/stdin", b"".join(given for given, _ in every)
     yield "crates/test_cases/stdout", b"".join(expected for _, expected in every)
     lines = captures.all_lines()

@@ -8,7 +8,7 @@ of each row names one thing or more, in backticks, and each must be there:
     crate/proofs/File.name       a theorem; crate/proofs/File is all of a file
     crate::module::name          a function, a type or a constant, also one that the module hands on
     crate/must-fail/label        a must-fail edit
-    reference/file.name          a function or a table of the second implementation
+    reference/file.name          a function or a table of the second implementation; reference/folder/file.name one in a folder of it
     path/of/a/file               a file, as a program's input crates/test_cases/stdin, a sample or a page
 
 In docs/DOCUMENT-02.md a row may be `not yet` in its place.
@@ -39,9 +39,10 @@ class Names:
         self.there = set()
         for crate in tree.crates():
             self.add_crate(crate)
-        for path in sorted((tree.ROOT / "reference").glob("*.py")):
+        for path in sorted((tree.ROOT / "reference").rglob("*.py")):
+            module = path.relative_to(tree.ROOT).with_suffix("").as_posix().removesuffix("/__init__")
             found = re.findall(r"^(?:def |class )?(\w+)(?:\(| = |: )", tree.text_of(path), re.M)
-            self.there |= {f"reference/{path.stem}.{name}" for name in found}
+            self.there |= {f"{module}.{name}" for name in found}
 
     def add_crate(self, name):
         for part in ("specs", "proofs"):

@@ -1,4 +1,4 @@
-"""What the scripts of log_scripts.py have to meet, found from the region before each operation and from what came of it."""
+"""What the scripts have to meet, found from the region before each operation and from what came of it."""
 
 import layouts
 import log
