@@ -5,13 +5,14 @@ three others. Field values may be any whole numbers; the one rule below tells wh
 records are good.
 """
 
+import functools
 from typing import NamedTuple
 
 import days
 from days import Date, Time
 from layouts import TIME_ONLY
 from refusals import (CALENDAR, NO_DATE, NO_SUCH_DAY, RANGE, STATUS_OR_WEEKDAY, WEEKDAY,
-                      Refused, check, lowest, outcome)
+                      Refused, lowest, outcome)
 from status import Flags, flags_allowed
 
 STANDARD_SHIFT = 3600
@@ -156,6 +157,7 @@ RECORD_CONDITIONS = (
 )
 
 
+@functools.lru_cache(maxsize=4096)
 def refusal_of(record):
     """The lowest of 5 to 8 that holds for a record, or None for a good one."""
     return lowest(RECORD_CONDITIONS, record)
@@ -163,7 +165,9 @@ def refusal_of(record):
 
 def check_record(record):
     """Refuses a record that is not good with the lowest of 5 to 8 that holds."""
-    check(RECORD_CONDITIONS, record)
+    number = refusal_of(record)
+    if number is not None:
+        raise Refused(number)
 
 
 # --- one second later ---

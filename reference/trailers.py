@@ -4,7 +4,7 @@ import itertools
 
 import making
 import telegrams
-from layouts import AS_PRINTED, CR, ETX, LF, ORDERS, STX, layouts_of_length
+from layouts import AS_PRINTED, CR, ETX, LF, ORDERS, SPACE, STX, layouts_of_length
 
 # With and without control characters, in each order.
 MODES = list(itertools.product((True, False), ORDERS))
@@ -93,26 +93,30 @@ def with_every_trailer(dice):
 
 # --- every trailer ---
 
-def trailers_in(telegram, control):
-    """A telegram with each pair of bytes in the place of its trailer, the last two bytes between STX and ETX; where there are no two
-    the bytes stay as they are. It comes in one buffer again and again, with the pair."""
+# A byte that stands in no fixed place is like any other such byte, where a fixed one is wanted. So of every 256 bytes these are told
+# apart, and each stands for so many.
+TOLD_APART = {LF: 1, CR: 1, SPACE: 1, STX: 1, ETX: 1, 0: 251}
+
+
+def trailers_in(telegram, control, trailers):
+    """A telegram with each of these pairs of bytes in the place of its trailer, the last two bytes between STX and ETX; where there
+    are no two the bytes stay as they are. It comes in one buffer again and again, with the pair."""
     buffer, at = bytearray(telegram), len(telegram) - control - 2
     has_place = at >= control
-    for first in range(256):
-        for second in range(256):
-            if has_place:
-                buffer[at], buffer[at + 1] = first, second
-            yield buffer, first, second
+    for first, second in trailers:
+        if has_place:
+            buffer[at], buffer[at + 1] = first, second
+        yield buffer, first, second
 
 
-def read_with_every_trailer(telegram, control, order):
+def read_with_every_trailer(telegram, control, order, told_apart=TOLD_APART):
     """What becomes of a telegram with each pair of bytes as its trailer: how many are refused with each number, and the pair and the
-    layout of each that is read well."""
+    layout of each that is read well. Only the bytes that are told apart are tried."""
     refused, read = [0] * 9, []
-    for telegram, first, second in trailers_in(telegram, control):
+    for telegram, first, second in trailers_in(telegram, control, itertools.product(told_apart, repeat=2)):
         record, number = telegrams.judged(telegram, control, order)
         if number is None:
             read.append((first, second, record.layout))
         else:
-            refused[number] += 1
-    return refused, read
+            refused[number] += told_apart[first] * told_apart[second]
+    return refused, sorted(read)

@@ -129,16 +129,23 @@ def every_length(dice, rounds):
             same("every length", read(telegram, control, EXCHANGED), read(swapped(telegram, control), control))
 
 
+EVERY_BYTE = dict.fromkeys(range(256), 1)
+
+
 def every_trailer():
     """A good telegram of each layout in each mode with each of the 65,536 trailers: two are read at the length that two layouts have,
-    one at any other, and all others are 3."""
+    one at any other, and all others are 3. The bytes that the cases tell apart say the same, and so they do of wrong telegrams."""
     for control, order in trailers.MODES:
         for layout, telegram in zip(trailers.GOOD, trailers.good_ones(control, order)):
-            refused, found = trailers.read_with_every_trailer(telegram, control, order)
+            refused, found = trailers.read_with_every_trailer(telegram, control, order, EVERY_BYTE)
+            same("every trailer", trailers.read_with_every_trailer(telegram, control, order), (refused, found))
             wanted = [(*telegram[len(telegram) - control - 2:][:2], layout)]
             if layout in ("6021t", "5500t"):
                 wanted = sorted(wanted + [(*wanted[0][1::-1], {"6021t": "5500t", "5500t": "6021t"}[layout])])
             same("every trailer", (found, refused), (wanted, [0, 0, 0, 65536 - len(wanted), 0, 0, 0, 0, 0]))
+    for telegram, number in [*trailers.wrong_ones(True, EXCHANGED)][::4]:
+        refused, found = trailers.read_with_every_trailer(telegram, True, EXCHANGED, EVERY_BYTE)
+        same("every trailer", trailers.read_with_every_trailer(telegram, True, EXCHANGED), (refused, found))
     for size, control in ((0, True), (3, True), (9, True), (40, True), (1, False), (9, False)):
         refused, found = trailers.read_with_every_trailer(b"\x02" * size, control, EXCHANGED)
         same("every trailer", (found, refused[1]), ([], 65536))
