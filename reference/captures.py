@@ -6,6 +6,7 @@ the line, and what follows is a line of its own. 65534 for a length at a line's 
 """
 
 import collections
+import itertools
 import random
 import sys
 from typing import List, NamedTuple
@@ -19,6 +20,8 @@ import making
 import samples
 import second_60
 import stray_runs
+import trailers
+import unnamed
 from layouts import EXCHANGED, LAYOUTS, ORDERS, other_order
 
 SEED = 6036
@@ -29,8 +32,8 @@ EXCHANGED_LINE = b"\xff\xfe"
 STX, ETX = b"\x02", b"\x03"
 
 # In each order there have to be so many bytes, and each layout and each refusal that a line can give has to occur so often.
-BYTES = 300_000
-AT_LEAST = 20
+BYTES = 60_000
+AT_LEAST = 4
 WANTED = list(LAYOUTS) + [1, 3, 4, 5, 6, 7, 8, 9, 10, 11]
 
 # What has to come so often of telegrams with second 60 or above, accepted ones as 0.
@@ -114,12 +117,11 @@ def nowhere(dice, captured):
 
 
 # Each kind of cut, for how many lines, and about how many bytes these have.
-CUTS = [(by_length, 40, 2500), (around(STX, 0), 10, 2500), (around(STX, 1), 10, 2500), (around(ETX, 0), 10, 2500),
-        (around(ETX, 1), 10, 2500), (behind_32, 10, 2500), (everywhere, 5, 2500), (nowhere, 12, 9000)]
+CUTS = [(by_length, 6, 2500), (around(STX, 0), 2, 2500), (around(STX, 1), 2, 2500), (around(ETX, 0), 2, 2500),
+        (around(ETX, 1), 2, 2500), (behind_32, 2, 2500), (everywhere, 1, 2500), (nowhere, 3, 9000)]
 
 # For how many lines with seconds 60.
-CUTS_60 = [(by_length, 6), (around(STX, 0), 2), (around(STX, 1), 2), (around(ETX, 0), 2), (around(ETX, 1), 2), (behind_32, 2),
-           (everywhere, 1), (nowhere, 3)]
+CUTS_60 = [(by_length, 2), (around(STX, 0), 1), (around(ETX, 1), 1), (everywhere, 1)]
 
 # How lines with long telegrams are cut: in each of these ways, and at some places inside a telegram.
 CUTS_LONG = [cuts for cuts, _, _ in CUTS] + [into(size) for size in long_telegrams.INTO]
@@ -206,13 +208,16 @@ def check_mixed(lines):
 # --- every line ---
 
 def damaged_lines(order, seed):
-    """Damaged lines and samples of an order. The last has no piece."""
+    """Damaged lines and samples of an order, one of bad records, and some that end inside a telegram, at each place. The last has no
+    piece."""
     dice = random.Random(seed)
     for cuts, lines, size in CUTS:
         for _ in range(lines):
             yield Line(order, pieces_of(dice, damaged_line(dice, size, making.in_order(making.some_telegram, order)), cuts))
-    for captured in samples.IN_ORDER[order].values():
+    for captured in [*samples.IN_ORDER[order].values(), b"".join(unnamed.shown_ones(True, order))]:
         yield Line(order, pieces_of(dice, captured, by_length))
+    longest = max(trailers.good_ones(True, order), key=len)
+    yield from (Line(order, [longest[:size]]) for size in range(1, len(longest)))
     for cuts, lines in CUTS_60:
         for _ in range(lines):
             yield Line(order, pieces_of(dice, damaged_line(dice, 2500, making.in_order(second_60.some_telegram, order)), cuts))
@@ -224,8 +229,7 @@ def mixed_lines(order, seed):
     dice, other = random.Random(seed), other_order(order)
     for some in (making.some_telegram, second_60.some_telegram):
         for telegrams in (making.in_order(some, other), making.in_any_order(some)):
-            for _ in range(3):
-                yield Line(order, pieces_of(dice, damaged_line(dice, 2500, telegrams), by_length))
+            yield Line(order, pieces_of(dice, damaged_line(dice, 2500, telegrams), by_length))
     for captured in samples.IN_ORDER[other].values():
         yield Line(order, pieces_of(dice, captured, by_length))
 
@@ -237,11 +241,11 @@ def lines_with_runs(order, seed):
 
 
 def lines_with_long_telegrams(order, seed):
-    """Lines with telegrams about as long as can be held."""
+    """Lines with telegrams about as long as can be held, cut in each way in turn."""
     dice = random.Random(seed)
-    for cuts in CUTS_LONG:
-        for captured in long_telegrams.captures(dice, order):
-            yield Line(order, pieces_of(dice, captured, cuts))
+    captured_ones = [*long_telegrams.captures(dice, order), *long_telegrams.captures(dice, order)]
+    for captured, cuts in zip(captured_ones, itertools.cycle(CUTS_LONG)):
+        yield Line(order, pieces_of(dice, captured, cuts))
 
 
 # The lines of each order: what makes them, and what checks those that it made.

@@ -78,7 +78,7 @@ TRAILER = re.compile(rb"\r\n|\n\r")
 # How far into a telegram a piece has to end.
 INTO = (24, 25, 37, 38, 39)
 
-AT_LEAST = 10   # of each length with each ending, and of each such piece
+AT_LEAST = 2   # of each length with each ending, and of each such piece
 
 
 def found_in(captured):

@@ -1,7 +1,10 @@
 """Captures with runs of stray bytes of each length, for tests.
 
-A reader that looks at many stray bytes at once can go wrong by how long a run is and by where it begins. So each length stands before,
-between and behind telegrams: between them at each place of 64, and behind them at the place that its own length names.
+A reader that looks at many stray bytes at once can go wrong by how long a run is, and by where it begins and ends. So each length
+stands before, between and behind telegrams: behind them at the place of 64 that its own length names, and between them at places where
+it begins or ends about a multiple of 64. A length that is about a multiple of 64 stands at every place between them.
+
+The order of a line is no matter of its runs. So on an exchanged line each length stands between telegrams once.
 """
 
 import itertools
@@ -9,10 +12,11 @@ import random
 import re
 
 import making
-from layouts import AS_PRINTED, ETX, STX
+from layouts import AS_PRINTED, ETX, EXCHANGED, STX
 
 LENGTHS = range(201)
 PLACES = 64
+EDGES = [length for length in LENGTHS if (length + 1) % PLACES < 3]   # about a multiple of the places
 
 # Any byte but STX may be stray. Those that are one bit off an STX, ETX among them, come more often than by chance.
 ANY = [byte for byte in range(256) if byte != STX]
@@ -46,9 +50,18 @@ def telegrams_to(dice, telegrams, at, places):
             return b"".join(dice.choice(telegrams[length]) for length in dice.choice(ways))
 
 
-def capture_of(dice, telegrams, length):
-    """A run of that length, then telegrams with one at each place between them, and one behind them."""
-    captured, left = run_of(dice, length), set(range(PLACES))
+def places_of(length, order):
+    """Where a run of that length begins between telegrams."""
+    if order == EXCHANGED:
+        return {-length % PLACES}
+    if length in EDGES:
+        return set(range(PLACES))
+    return {(place + step) % PLACES for place in (0, -length) for step in (-1, 0, 1)}
+
+
+def capture_of(dice, telegrams, length, order):
+    """A run of that length, then telegrams with one at each of its places between them, and one behind them."""
+    captured, left = run_of(dice, length), places_of(length, order)
     while left:
         captured += telegrams_to(dice, telegrams, len(captured), left)
         left.remove(len(captured) % PLACES)
@@ -62,7 +75,7 @@ def captures(seed, order=AS_PRINTED):
     dice = random.Random(seed)
     telegrams = some_telegrams(dice, order)
     for length in LENGTHS:
-        yield capture_of(dice, telegrams, length)
+        yield capture_of(dice, telegrams, length, order)
 
 
 # --- what has to occur ---
@@ -86,7 +99,8 @@ def check(lines):
         runs = list(runs_in(captured))
         before, between, behind = runs[0], runs[1:-1], runs[-1]
         places = {start % PLACES for start, run in between if len(run) == length}
-        if (len(before[1]), len(behind[1]), behind[0] % PLACES) != (length, length, length % PLACES) or len(places) < PLACES:
+        at_all = (len(before[1]), len(behind[1]), behind[0] % PLACES) == (length, length, length % PLACES)
+        if not at_all or not places_of(length, lines[0].order) <= places:
             raise AssertionError(f"runs of {length}: not before, behind or at each place between telegrams")
         stray += b"".join(run for _, run in runs)
     if STX in stray or stray.count(ETX) * 32 < len(stray):

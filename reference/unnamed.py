@@ -97,3 +97,13 @@ def bad_ones():
 def bad_of_each_number():
     """One bad record of each number, with a date and without."""
     return {(number, records.is_time_only(record)): record for number, record in bad_ones()}.values()
+
+
+def bad_of_each_layout():
+    """One bad record of each number of each layout."""
+    return {(number, record.layout): record for number, record in bad_ones()}.values()
+
+
+def shown_ones(control, order):
+    """A telegram of each of these that its layout has characters for."""
+    return [telegrams.telegram_of(record, control, order) for record in bad_of_each_layout() if second_60.can_be_shown(record)]
