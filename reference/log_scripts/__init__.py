@@ -11,7 +11,7 @@ from log_scripts.by_dice import by_dice
 from log_scripts.by_hand import by_hand
 
 SEED = 512
-SCRIPTS = 60   # by dice
+SCRIPTS = 6   # by dice
 
 
 def all_scripts(seed=SEED):

@@ -3,9 +3,10 @@
 import itertools
 
 import log
-from log import BLOCK, CHECK_AT, COUNT_AT, SLOTS, ZEROS_AT
-from log_scripts.blocks import REFUSED, REFUSED_LONG, block_of, good_telegram, of_all_layouts, refused_telegram, with_sum
-from log_scripts.damage import damaged_blocks, damaged_empty_blocks, rubbish, wrong_checks
+from log import BLOCK, CHECK_AT, COUNT_AT, SLOT, SLOTS, ZEROS_AT
+from log_scripts.blocks import (REFUSED, REFUSED_LONG, block_of, good_telegram, of_all_layouts, refused_telegram, with_check,
+                                with_sum)
+from log_scripts.damage import damaged_blocks, damaged_empty_blocks, wrong_checks, wrong_counts
 from log_scripts.kinds import EDGES, NUMBERS, ODD_LENGTHS, OWN
 from log_scripts.script import LONGEST, Script
 
@@ -29,17 +30,21 @@ def filled(dice, counts):
 
 
 def to_full(dice):
-    """Adds until a region of 0 to 8 blocks is full, and some more."""
+    """Regions of 0 to 8 blocks: adds until one of up to 4 blocks is full, and some more, or a few; then the last block is damaged."""
     for blocks in range(9):
         script = Script(BLOCK * blocks)
         script.verify()
         script.read_all()
-        for telegram in of_all_layouts(dice, SLOTS * blocks):
+        for telegram in of_all_layouts(dice, SLOTS * blocks if blocks <= 4 else 3):
             script.add(telegram)
         script.verify()
         script.read_all()
-        for telegram in of_all_layouts(dice, 7):
-            script.add(telegram)
+        if blocks <= 4:
+            for telegram in of_all_layouts(dice, 7):
+                script.add(telegram)
+        if blocks:
+            script.poke(BLOCK * blocks - 1, 255)
+            script.verify()
         yield script
 
 
@@ -104,7 +109,7 @@ BESIDE_BAD_ONES = (
 def beside_bad_ones(dice):
     """Adds and reads where some blocks are bad, each in its own way; then all of them are made good again."""
     for counts in BESIDE_BAD_ONES:
-        script = filled(dice, [dice.choice([0, 4, 15]) if count is None else count for count in counts])
+        script = filled(dice, [dice.choice([0, 2, 15]) if count is None else count for count in counts])
         spoiled = {}
         for number in (number for number, count in enumerate(counts) if count is None):
             place = BLOCK * number + dice.randrange(BLOCK)
@@ -112,13 +117,12 @@ def beside_bad_ones(dice):
             script.poke(place, script.region[place] ^ dice.randrange(1, 256))
         script.verify()
         script.read_all()
-        for telegram in of_all_layouts(dice, 17):
+        for telegram in of_all_layouts(dice, 3):
             script.add(telegram)
         script.verify()
         for place, byte in spoiled.items():
             script.poke(place, byte)
             script.verify()
-        script.read_all()
         for telegram in of_all_layouts(dice, 2):
             script.add(telegram)
         yield script
@@ -127,35 +131,38 @@ def beside_bad_ones(dice):
 # --- damage ---
 
 def after_damage(script, dice, number):
-    """What is asked once a block is damaged: verify, every slot, and now and then an add, which is taken away again."""
+    """What is asked once a block is damaged: verify, some slots, and now and then an add, which is taken away again."""
     before = log.blocks_of(script.region)
     script.verify()
-    script.read_all()
+    if dice.random() < 0.2:
+        script.read_around(number)
     script.read(number, dice.choice([1, 2, 2 ** 64 - 1]))
-    place = script.add(good_telegram(dice)) if dice.random() < 0.3 else None
+    place = script.add(good_telegram(dice)) if dice.random() < 0.1 else None
     if place is not None:
         script.put(place.block, before[place.block])
 
 
+def damaged_in_turn(dice, counts, number, damage):
+    """A script whose blocks hold so many telegrams, with one of them damaged in one way after the other, and then good again."""
+    script = filled(dice, counts)
+    good = log.block_at(script.region, number)
+    for damaged in damage(dice, good):
+        script.put(number, damaged)
+        after_damage(script, dice, number)
+    script.put(number, good)
+    script.verify()
+    return script
+
+
 def damages(dice):
-    """Every kind of damage of a block with some telegrams, of a full one and of an empty one: the first block, a middle one, the
-    last."""
-    for counts, number in (((5, 3, 0), 0), ((15, 5, 0), 1), ((2, 15, 5), 2), ((15, 1, 0), 0), ((2, 15, 1), 1), ((1, 1, 15), 2)):
-        script = filled(dice, counts)
-        good = log.block_at(script.region, number)
-        for damaged in damaged_blocks(dice, good):
-            script.put(number, damaged)
-            after_damage(script, dice, number)
-            script.put(number, good)
-            script.verify()
-        yield script
+    """Every kind of damage of a block with some telegrams, of one with a single one, of a full one and of an empty one: the first
+    block, a middle one, the last. In a full block elsewhere the number."""
+    for counts, number in (((5, 3, 0), 0), ((15, 1, 0), 1), ((1, 1, 15), 2)):
+        yield damaged_in_turn(dice, counts, number, damaged_blocks)
+    for counts, number in (((15, 1, 0), 0), ((2, 15, 1), 1)):
+        yield damaged_in_turn(dice, counts, number, wrong_counts)
     for counts, number in (((0, 1, 0), 0), ((2, 0, 1), 1), ((1, 15, 0), 2)):
-        script = filled(dice, counts)
-        for damaged in damaged_empty_blocks(dice):
-            script.put(number, damaged)
-            after_damage(script, dice, number)
-            script.put(number, bytes(BLOCK))
-        yield script
+        yield damaged_in_turn(dice, counts, number, damaged_empty_blocks)
 
 
 def beyond_the_modulus(dice):
@@ -176,15 +183,25 @@ def beyond_the_modulus(dice):
         yield script
 
 
+def moved_blocks(dice, block):
+    """A block that has moved by a byte, with a check that fits and without."""
+    moved = block[1:] + block[:1]
+    return moved, with_check(moved)
+
+
+def any_block(dice, block):
+    """Any bytes, with a check that fits."""
+    return [with_check(dice.randbytes(BLOCK))]
+
+
 def rubbish_blocks(dice):
     """Blocks that are none at all, in the middle."""
-    script = filled(dice, (2, 6, 1))
-    for block in rubbish(dice, log.block_at(script.region, 1)):
-        script.put(1, block)
-        after_damage(script, dice, 1)
-    script.put(1, bytes(BLOCK))
-    script.verify()
-    yield script
+    for damage in (moved_blocks, any_block):
+        script = filled(dice, (2, 6, 1))
+        for block in damage(dice, log.block_at(script.region, 1)):
+            script.put(1, block)
+            after_damage(script, dice, 1)
+        yield script
 
 
 def other_values(dice, at, byte):
@@ -205,11 +222,11 @@ def single_bytes(dice):
             for wrong in other_values(dice, at, right):
                 script.poke(place, wrong)
                 script.verify()
-                script.read(number, dice.randrange(SLOTS))
-                script.read(1 - number, dice.randrange(4))
+                if at % SLOT == 0:
+                    script.read(number, dice.randrange(SLOTS))
+                    script.read(1 - number, dice.randrange(4))
                 script.poke(place, right)
                 script.verify()
-        script.read_all()
         yield script
 
 
@@ -221,7 +238,7 @@ def odd_lengths(dice):
         script = Script(length)
         script.verify()
         script.add(good_telegram(dice))
-        for block, slot in itertools.product((0, 1, length // BLOCK, 2 ** 64 - 1), (0, 14, 15, 2 ** 64 - 1)):
+        for block, slot in itertools.product((0, length // BLOCK, 2 ** 64 - 1), (0, 15)):
             script.read(block, slot)
         for number in range(min(2, length // BLOCK)):
             script.put(number, block_of(of_all_layouts(dice, number + 1)))
@@ -239,14 +256,16 @@ def odd_lengths(dice):
 
 
 def numbers(dice):
-    """Every number of a block with every number of a slot; and the numbers around that of the blocks."""
-    for counts, bad in (((), None), ((15,), None), ((2,), 0), ((15, 15), None), ((0, 3), None), ((15, 1, 0), 1), ((15,) * 8, None)):
+    """Every number of a block with every number of a slot where a block is bad, else some of them; and the numbers around that of the
+    blocks."""
+    for counts, bad in (((), None), ((15,), None), ((2,), 0), ((15, 15), None), ((0, 3), None), ((15, 1, 0), 1), ((1,) * 8, None)):
         script = filled(dice, counts)
         if bad is not None:
             script.poke(BLOCK * bad + CHECK_AT, script.region[BLOCK * bad + CHECK_AT] ^ 1)
-        for block, slot in itertools.product(NUMBERS, NUMBERS):
+        others = itertools.chain(itertools.product(NUMBERS, (0, 15)), itertools.product((0, len(counts)), NUMBERS))
+        for block, slot in others if bad is None else itertools.product(NUMBERS, NUMBERS):
             script.read(block, slot)
-        for block, slot in itertools.product(range(max(len(counts) - 1, 0), len(counts) + 2), range(17)):
+        for block, slot in itertools.product(range(max(len(counts) - 1, 0), len(counts) + 2), (0, 1, 2, 3, 13, 14, 15, 16)):
             script.read(block, slot)
         yield script
 

@@ -12,7 +12,7 @@ def wrong_checks(dice, block):
     """Checks that do not fit, among them the right one with its bytes exchanged, and with 65,521 added where two bytes hold it."""
     low, high = block[CHECK_AT:]
     for wrong in ((low ^ 1, high), (low, high ^ 1), (low ^ 128, high), (low, high ^ 128), (low ^ 1, high ^ 1), (high, low),
-                  (255, 255), (0, 0), (low, dice.randrange(256)), (dice.randrange(256), high)):
+                  (255, 255), (0, 0)):
         if wrong != (low, high):
             yield changed(block, CHECK_AT, *wrong)
     if log.check_of(block) + log.MODULUS < 65536:
@@ -22,22 +22,23 @@ def wrong_checks(dice, block):
 def wrong_counts(dice, block):
     """Numbers that are not that of the used slots."""
     right = block[COUNT_AT]
-    for wrong in sorted({0, 1, right - 1, right + 1, right + 2, 15, 16, 17, 127, 128, 240, 255, dice.randrange(256)} - {right}):
+    for wrong in sorted({0, right - 1, right + 1, 15, 16, 17, 128, 255, dice.randrange(256)} - {right}):
         yield fitted(block, COUNT_AT, wrong)
 
 
 def wrong_telegrams(dice, block):
-    """A used slot with a telegram that is refused, each number in some slot and in the first and the last."""
-    count = block[COUNT_AT]
-    for number, slot in itertools.product(OWN, sorted({0, count - 1, dice.randrange(count)})):
-        yield with_slot(block, slot, slot_of(refused_telegram(dice, number)))
+    """A used slot with a telegram that is refused: each number, and each slot, in turn."""
+    slots = range(block[COUNT_AT])
+    for turn in range(max(len(OWN), len(slots))):
+        yield with_slot(block, slots[turn % len(slots)], slot_of(refused_telegram(dice, OWN[turn % len(OWN)])))
 
 
 def wrong_lengths(dice, block):
-    """A used slot with another length byte."""
-    for slot in sorted({0, dice.randrange(block[COUNT_AT]), block[COUNT_AT] - 1}):
+    """A used slot with another length byte: each slot with a few, and in turn with one of many more."""
+    many = itertools.cycle((0, 1, 8, 16, 25, 30, 31, 32, 128, 255, dice.randrange(256)))
+    for slot in range(block[COUNT_AT]):
         right = block[SLOT * slot]
-        for wrong in sorted({0, 1, 8, 16, right - 1, right + 1, 25, 30, 31, 32, 33, 128, 255, dice.randrange(256)} - {right}):
+        for wrong in sorted({right - 1, right + 1, 33, next(many), next(many)} - {right}):
             yield fitted(block, SLOT * slot, wrong)
 
 
@@ -46,16 +47,25 @@ def unused_slots(count):
     return sorted({count, count + 1, SLOTS - 1} & set(range(count, SLOTS)))
 
 
+def behind_telegram(block, slot):
+    """The first two places behind the telegram of a slot, and the last."""
+    first = SLOT * slot + 1 + block[SLOT * slot]
+    return first, first + 1, SLOT * slot + SLOT - 1
+
+
 def wrong_zeros(dice, block):
-    """Something behind a telegram, in an unused slot, or behind the number."""
+    """Something behind a telegram, in an unused slot, or behind the number. A full block has each used slot, and one with a single
+    telegram each unused slot and each place behind the number; any other has some."""
     count = block[COUNT_AT]
-    for slot in sorted({0, dice.randrange(count), count - 1}):
-        first, last = SLOT * slot + 1 + block[SLOT * slot], SLOT * slot + SLOT - 1
-        for at in sorted({first, first + 1, last}):
-            yield fitted(block, at, dice.randrange(1, 256))
-    for slot, at in itertools.product(unused_slots(count), (0, 1, 15, SLOT - 1)):
+    for slot in range(count) if count == SLOTS else sorted({0, count - 1}):
+        yield fitted(block, dice.choice(behind_telegram(block, slot)), dice.randrange(1, 256))
+    for at in behind_telegram(block, count - 1):
+        yield fitted(block, at, dice.randrange(1, 256))
+    for slot in range(count, SLOTS) if count == 1 else unused_slots(count):
+        yield fitted(block, SLOT * slot + dice.randrange(SLOT), dice.choice([1, 10, 255]))
+    for slot, at in itertools.product(unused_slots(count), (0, 15, SLOT - 1)):
         yield fitted(block, SLOT * slot + at, dice.choice([1, 10, 255]))
-    for at in range(ZEROS_AT, CHECK_AT):
+    for at in range(ZEROS_AT, CHECK_AT) if count == 1 else (ZEROS_AT, CHECK_AT - 1):
         yield fitted(block, at, dice.choice([1, 128, 255, dice.randrange(1, 256)]))
 
 
@@ -78,9 +88,8 @@ def damaged_blocks(dice, block):
         yield from kind(dice, block)
 
 
-def damaged_empty_blocks(dice):
+def damaged_empty_blocks(dice, block):
     """The same of an empty block, which has no used slot."""
-    block = bytes(BLOCK)
     yield from wrong_checks(dice, block)
     yield from (fitted(block, COUNT_AT, wrong) for wrong in (1, 2, 15, 16, 255))
     yield from (fitted(block, SLOT * slot + at, 1) for slot, at in itertools.product((0, 1, 7, 14), (0, 1, 31)))

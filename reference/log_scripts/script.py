@@ -101,6 +101,14 @@ class Script:
             if self.region[BLOCK * number + at] != byte:
                 self.poke(BLOCK * number + at, byte)
 
+    def read_around(self, number):
+        """The first and the last slot of a block and the one behind; the first slot of each other block."""
+        for slot in (0, SLOTS - 1, SLOTS):
+            self.read(number, slot)
+        for other in range(len(self.region) // BLOCK):
+            if other != number:
+                self.read(other, 0)
+
     def read_all(self):
         """Every used slot of a good block and the next one; the first and the last slot of a bad one, and the one behind; and the
         block behind the last."""

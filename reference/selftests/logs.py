@@ -82,7 +82,7 @@ def log_blocks(dice, rounds):
         good = block_of([good_telegram(dice) for _ in range(dice.randrange(1, 16))])
         same("log blocks", (made_again(good), log.is_good(good)), (good, True))
         some = list(damaged_blocks(dice, good)) + list(rubbish(dice, good))
-        for block in some + list(damaged_empty_blocks(dice)) + [making.damaged(dice, good).ljust(512, b"0")[:512]]:
+        for block in some + list(damaged_empty_blocks(dice, bytes(512))) + [making.damaged(dice, good).ljust(512, b"0")[:512]]:
             same("log blocks", log.check_of(block), by_places(block))
             same("log blocks", log.is_good(block), made_again(block) == block)
 
