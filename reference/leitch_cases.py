@@ -12,6 +12,7 @@ import manual_examples
 from days import Date
 from layouts import is_decimal
 from leitch import Answer
+from making import with_byte
 from status import HEX_DIGITS
 
 CALENDAR_YEARS = range(days.FIRST_YEAR, days.LAST_YEAR + 1)
@@ -41,15 +42,20 @@ def wrong_dates():
             yield from (Date(year, month, day) for day in range(days.days_in_month(year, month) + 1, 32))
 
 
+def whole_years():
+    """Every day of a leap year, of the leap year of a full century, and of the last year."""
+    for year in (1996, 2000, 2079):
+        start = days.day_number(Date(year, 1, 1))
+        yield from (days.date_of(start + day) for day in range(days.days_in_year(year)))
+
+
 def dates(dice):
-    """The edges of every year, the first and the last day of every month of some, wrong ones, and some by dice."""
+    """The edges of every year, every day of some, wrong ones, and some by dice."""
     for year in CALENDAR_YEARS:
         yield from year_edges(year)
-    for year in LEAP_AND_COMMON:
-        for month in range(1, 13):
-            yield from (Date(year, month, 1), Date(year, month, days.days_in_month(year, month)))
+    yield from whole_years()
     yield from wrong_dates()
-    for _ in range(100):
+    for _ in range(30):
         yield days.date_of(dice.randrange(days.DAYS))
 
 
@@ -76,20 +82,13 @@ def good_answer(dice):
 
 
 def good_answers(dice):
-    """The edges of every year, every time of the list, every status on every weekday."""
-    for year in CALENDAR_YEARS:
+    """The edges of some years, every time of the list, every status on every weekday."""
+    for year in LEAP_AND_COMMON:
         yield from (answer_on(dice, date) for date in year_edges(year))
     for time in TIMES:
         yield good_answer(dice)._replace(**dict(zip(Answer._fields, time)))
     for status, weekday in itertools.product(leitch.STATUSES, range(7)):
         yield answer_on(dice, days.date_of(7 * dice.randrange(days.DAYS // 7) + weekday))._replace(status=status)
-
-
-def whole_years(dice):
-    """Every day of a leap year, of the leap year of a full century, and of the last year."""
-    for year in (1996, 2000, 2079):
-        start = days.day_number(Date(year, 1, 1))
-        yield from (answer_on(dice, days.date_of(start + day)) for day in range(days.days_in_year(year)))
 
 
 # --- answers with wrong values ---
@@ -150,7 +149,7 @@ def several_wrong(dice, wrong):
     for (low, first), (high, second) in itertools.product(every, every):
         if low < high:
             yield (low, high), made_wrong(dice, [second, first])
-    for _ in range(60):
+    for _ in range(20):
         numbers = sorted(dice.sample(list(wrong), dice.randrange(3, 6)))
         yield tuple(numbers), made_wrong(dice, [dice.choice(wrong[number]) for number in reversed(numbers)])
 
@@ -192,13 +191,9 @@ def all_wrong(dice, wrong):
 
 # --- bytes to read as an answer ---
 
-# Characters that stand in answers, their neighbours, and some others.
+# Characters that stand in answers, their neighbours, and some others; and those of them that every place is tried with.
 CHARACTERS = b"0123456789ABCDEF:./ \r\n\x02\x03\x00@Gaf-,\x1f;\x7f\xff"
-
-
-def with_byte(text, place, byte):
-    """A text with one byte changed."""
-    return text[:place] + bytes([byte]) + text[place + 1:]
+TELLING = b"09:/. \r\nA-"
 
 
 def good_text(dice):
@@ -207,20 +202,18 @@ def good_text(dice):
 
 
 def single_bytes(dice):
-    """Every place with each of the characters; the status and the weekday with every byte."""
-    for place, byte in itertools.product(range(leitch.SIZE), CHARACTERS):
+    """Every place with each of some characters; the status and the weekday with every byte."""
+    for place, byte in itertools.product(range(leitch.SIZE), TELLING):
         yield with_byte(good_text(dice), place, byte)
     for place, byte in itertools.product((leitch.WEEKDAY_PLACE, leitch.STATUS_PLACE), range(256)):
         yield with_byte(good_text(dice), place, byte)
 
 
 def lengths(dice):
-    """Every length up to 40, and some long ones: cut off, gone on with, with bytes missing in front, and of any characters."""
+    """Every length up to 40, and some long ones: cut off or gone on with, and with bytes missing in front."""
     for size in [*range(41), 255, 256, 287, 300]:
         yield (good_text(dice) * 10)[:size]
-        yield good_text(dice).ljust(size, b" ")[:size]
         yield (good_text(dice) * 10)[-size:] if size else b""
-        yield bytes(dice.choice(CHARACTERS) for _ in range(size))
 
 
 def trailers_and_frames(dice):
@@ -279,7 +272,7 @@ def damaged_text(dice):
 
 def texts(dice):
     """All that is read as an answer."""
-    for answer in itertools.chain(good_answers(dice), whole_years(dice), all_wrong(dice, SHOWN_WRONG), late_days(dice)):
+    for answer in itertools.chain(good_answers(dice), all_wrong(dice, SHOWN_WRONG), late_days(dice)):
         yield leitch.text_of(answer)
     yield from single_bytes(dice)
     yield from lengths(dice)
@@ -288,9 +281,9 @@ def texts(dice):
         yield text
     for example in manual_examples.EXAMPLES:
         yield example.telegram
-    for _ in range(700):
+    for _ in range(100):
         yield damaged_text(dice)
-    for _ in range(50):
+    for _ in range(10):
         yield dice.randbytes(leitch.SIZE)
 
 
@@ -300,16 +293,17 @@ LONGEST_BUFFER = 32
 
 
 def values_out_of_range(dice):
-    """Each field at the ends of its range and behind them, alone."""
+    """Each field at the ends of its range and behind them, alone; the status with each character that is listed, and beside it."""
     for field, values in (("hour", (0, 23, 24, 255)), ("minute", (0, 59, 60, 255)), ("second", (0, 59, 60, 61, 255)),
                           ("millisecond", (0, 1, 998, 999, 1000, 1001, 9999, 65535)),
                           ("year", (0, 80, 96, 1979, 1980, 2079, 2080, 2100, 65535)), ("month", (0, 13, 255)), ("day", (0, 32, 255)),
                           ("day_of_year", (0, 1, 366, 367, 1000, 65535))):
         for value in values:
             yield good_answer(dice)._replace(**{field: value})
-    for byte in range(256):
-        yield good_answer(dice)._replace(status=byte)
+    for byte in (*range(11), 15, 16, 48, 49, 55, 56, 127, 128, 255):
         yield good_answer(dice)._replace(weekday=byte)
+    for byte in sorted({byte + step for byte in leitch.STATUSES for step in (-1, 0, 1)} | {0, 3, 10, 128, 255}):
+        yield good_answer(dice)._replace(status=byte)
 
 
 def any_answer(dice):
@@ -326,11 +320,12 @@ def any_answer(dice):
 
 
 def every_room(dice):
-    """Every buffer, with a good answer and with each refusal of the values."""
+    """Every buffer with a good answer; the shortest, the longest and those about as long as an answer with each refusal of the
+    values."""
     for room in range(LONGEST_BUFFER + 1):
         yield room, good_answer(dice)
-        for ways in WRONG.values():
-            yield room, made_wrong(dice, [dice.choice(ways)])
+    for room, ways in itertools.product((0, leitch.SIZE - 1, leitch.SIZE, LONGEST_BUFFER), WRONG.values()):
+        yield room, made_wrong(dice, [dice.choice(ways)])
 
 
 def writes(dice):
@@ -338,9 +333,9 @@ def writes(dice):
     yield from every_room(dice)
     for answer in good_answers(dice):
         yield dice.choice([leitch.SIZE, LONGEST_BUFFER]), answer
-    for answer in itertools.chain(all_wrong(dice, WRONG), late_days(dice), values_out_of_range(dice)):
+    for answer in itertools.chain((answer for _, answer in several_wrong(dice, WRONG)), values_out_of_range(dice)):
         yield dice.choice([0, leitch.SIZE - 1, leitch.SIZE, LONGEST_BUFFER, LONGEST_BUFFER]), answer
-    for _ in range(700):
+    for _ in range(60):
         yield dice.choice([dice.randrange(LONGEST_BUFFER + 1), leitch.SIZE, LONGEST_BUFFER]), any_answer(dice)
 
 

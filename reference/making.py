@@ -20,7 +20,6 @@ BYTES = [0, 1, 7, 8, 12, 13, 23, 24, 28, 29, 30, 31, 32, 59, 60, 99, 200, 255]
 YEARS = [0, 96, 1900, 1979, 1980, 2000, 2079, 2080, 65535]
 
 
-
 def good_record(dice):
     """Any good record of any layout, with midnights and year ends more often than by chance."""
     layout = dice.choice(list(layouts.LAYOUTS))
@@ -60,6 +59,11 @@ def telegram_of(record, control, order=AS_PRINTED):
     buffer = bytearray(layouts.length(record.layout, control))
     telegrams.write_telegram(record, buffer, telegrams.Setting(control, False, order))
     return bytes(buffer)
+
+
+def with_byte(telegram, at, byte):
+    """A telegram with one byte changed."""
+    return telegram[:at] + bytes([byte]) + telegram[at + 1:]
 
 
 def damaged(dice, telegram):

@@ -133,6 +133,11 @@ def bad_ones():
     return {(number, records.is_time_only(record)): record for number, record in bad_by_hand()}.values()
 
 
+def bad_of_each_layout():
+    """A bad one of each number of each layout."""
+    return {(number, record.layout): record for number, record in bad_by_hand()}.values()
+
+
 def bad_ends_of_the_calendar():
     """The first hours, which are the end of a month in UTC before the calendar, and the last day, which in local time ends none."""
     first = Dated("6021", "radio", False, False, False, 2, 0, 59, 60, 1, 1, 1980)
@@ -182,6 +187,15 @@ def without_weekday(telegram, layout, control):
     """A telegram of a dated layout whose weekday character is none."""
     at = layouts.LAYOUTS[layout].index(layouts.WEEKDAY) + control
     return telegram[:at] + b"0" + telegram[at + 1:]
+
+
+def shown_ones(control, order):
+    """A telegram of a good one of each layout; then of a bad one of each number, with a date and without."""
+    bad = {(number, records.is_time_only(record)): record for number, record in bad_by_hand() if can_be_shown(record)}
+    for record in [*one_of_each(), *bad.values()]:
+        yield telegrams.telegram_of(record, control, order)
+    dated = next(record for record in one_of_each() if not records.is_time_only(record))
+    yield without_weekday(telegrams.telegram_of(dated, control, order), dated.layout, control)
 
 
 def some_telegram(dice, control, order=AS_PRINTED):

@@ -39,12 +39,13 @@ def holding(dice, held, order, fed=None):
 
 
 def good_ones(dice, order):
-    """Each number of bytes held: of a telegram with each count of bytes fed, of zeros, of any bytes."""
+    """Each number of bytes held: of a telegram, and in turn of zeros and of any bytes. Some numbers with each count of bytes fed."""
     for size in range(OLD_PLACES + 1):
-        for fed in [*FEDS, dice.randrange(WRAP)]:
-            yield holding(dice, full(order)[:size], order, fed)
-        for rest in (bytes(OLD_PLACES), bytes(dice.choices(PLAIN, k=OLD_PLACES))):
-            yield holding(dice, (bytes([STX]) + rest)[:size], order)
+        yield holding(dice, full(order)[:size], order)
+        rest = bytes(dice.choices(PLAIN, k=OLD_PLACES)) if size % 2 else bytes(OLD_PLACES)
+        yield holding(dice, (bytes([STX]) + rest)[:size], order)
+    for size, fed in itertools.product(SIZES, FEDS):
+        yield holding(dice, full(order)[:size], order, fed)
 
 
 def left_by(state, piece):
@@ -64,8 +65,8 @@ def from_a_line(dice, order):
 
 def wrong_starts(dice, order):
     """Good ones but for the start, which is off by one or by half of all counts."""
-    for size, fed, off in itertools.product(SIZES, FEDS, (1, -1, 2 ** 31)):
-        good = holding(dice, full(order)[:size], order, fed)
+    for size, off in itertools.product(SIZES, (1, -1, 2 ** 31)):
+        good = holding(dice, full(order)[:size], order)
         yield good._replace(start=(good.start + off) % WRAP)
 
 
@@ -76,22 +77,22 @@ def saying(dice, places, length, less, order):
 
 
 def every_length(dice, order):
-    """Each number that a byte can give for how many are held: with a telegram's bytes in all places, and with so many of them and
-    zeros behind, or zeros only where there are not so many places."""
+    """Each number that a byte can give for how many are held, with a telegram's bytes in all places; and the small ones with so many
+    of them and zeros behind, or zeros only where there are not so many places."""
     telegram = full(order)
     for length in range(256):
+        yield saying(dice, telegram, length, length, order)
+    for length in (*range(line.PLACES + 2), 64, 128, 255):
         held = telegram[:length] if length <= OLD_PLACES else b""
-        for places in (telegram, held.ljust(OLD_PLACES, b"\0")):
-            yield saying(dice, places, length, length, order)
+        yield saying(dice, held.ljust(OLD_PLACES, b"\0"), length, length, order)
 
 
 def held_by_a_reader_only(dice, order):
-    """More held than there are places, and no more than a reader can hold: with any bytes, and with other starts too."""
+    """More held than there are places, and no more than a reader can hold: with any bytes, and with another start."""
     for length in range(OLD_PLACES + 1, line.PLACES + 1):
         plain = bytes([STX, *dice.choices(PLAIN, k=OLD_PLACES - 1)])
-        for places in (full(order), plain, bytes([STX]).ljust(OLD_PLACES, b"\0"), dice.randbytes(OLD_PLACES)):
-            for less in (length, OLD_PLACES, 0):
-                yield saying(dice, places, length, less, order)
+        for places, less in ((plain, length), (bytes([STX]).ljust(OLD_PLACES, b"\0"), length), (full(order), OLD_PLACES)):
+            yield saying(dice, places, length, less, order)
 
 
 FAULTS = ("length", "first", "STX", "ETX", "beyond", "start")
@@ -118,11 +119,10 @@ def with_faults(dice, faults, order):
 
 
 def changed_bytes(dice, order):
-    """Good ones with another byte in one place, each place in turn: STX, ETX, any other."""
-    for size in SIZES:
+    """Good ones that hold no byte, some or one in each place, with another byte in one place, each place in turn: STX, ETX, any."""
+    for size, at in itertools.product((0, 12, OLD_PLACES), range(OLD_PLACES)):
         good = holding(dice, full(order)[:size], order)
-        for at, byte in itertools.product(range(OLD_PLACES), (STX, ETX, None)):
-            byte = dice.choice(PLAIN) if byte is None else byte
+        for byte in (STX, ETX) if size == OLD_PLACES else (dice.choice([STX, ETX, *PLAIN]),):
             yield good._replace(places=(*good.places[:at], byte, *good.places[at + 1:]))
 
 
@@ -131,16 +131,22 @@ def changed_bytes(dice, order):
 def states(dice, order):
     """Old states of an order."""
     yield from good_ones(dice, order)
-    yield from (from_a_line(dice, order) for _ in range(60))
+    yield from (from_a_line(dice, order) for _ in range(15))
     yield from wrong_starts(dice, order)
     yield from every_length(dice, order)
     yield from held_by_a_reader_only(dice, order)
-    for faults in 3 * SETS_OF_FAULTS:
+    for faults in SETS_OF_FAULTS:
         yield with_faults(dice, faults, order)
     yield from changed_bytes(dice, order)
 
 
-AT_LEAST = 300   # of those that are taken over, and of those that are refused
+def few_states(dice, order):
+    """Good ones and each fault alone."""
+    yield from (holding(dice, full(order)[:size], order) for size in range(OLD_PLACES + 1))
+    yield from (with_faults(dice, (fault,), order) for fault in FAULTS)
+
+
+AT_LEAST = 100   # of those that are taken over, and of those that are refused
 
 
 def check(olds):

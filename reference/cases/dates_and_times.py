@@ -6,15 +6,14 @@ from days import Date, Time
 
 
 def calendar_cases():
-    """The first and the last day of every month, each month, and what lies outside."""
+    """Each month, with the numbers of its first and its last day, its last day and what follows it; and what lies outside."""
     for start, end in zip(days.MONTH_STARTS, days.MONTH_STARTS[1:] + [days.DAYS]):
-        first = days.date_of(start)
-        yield month_case(first.year, first.month)
-        for number in (start, end - 1):
-            date = days.date_of(number)
-            yield date_case(number)
-            yield day_case(date)
-            yield next_day_case(date)
+        last = days.date_of(end - 1)
+        yield month_case(last.year, last.month)
+        yield date_case(start)
+        yield date_case(end - 1)
+        yield day_case(last)
+        yield next_day_case(last)
     for number in (36524, 36525, 65535, 65536, 4294967295):
         yield date_case(number)
     for year, month in ((1979, 12), (2080, 1), (0, 1), (65535, 1), (2000, 0), (2000, 13), (2000, 255)):

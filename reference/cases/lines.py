@@ -1,9 +1,13 @@
 """Pieces of a line, fed to readers of many states."""
 
+import itertools
+
 import line
 import making
 import manual_examples
 import stray_runs
+import trailers
+import unnamed
 from cases.one_case import end_case, feed_case, use_up_case, well_formed_case
 from cases.states import states
 from layouts import AS_PRINTED
@@ -12,42 +16,57 @@ from layouts import AS_PRINTED
 def crowded_piece(dice, some):
     """A piece with more events than are handed on at a time, or about as many, between telegrams of some kind: each STX behind another
     gives one, and so does an ETX behind an STX."""
-    crowd = dice.choice([b"\x02", b"\x02\x03"]) * dice.choice([*range(30, 36), 64, 65, 66, dice.randrange(100, 1000)])
+    crowd = dice.choice([b"\x02", b"\x02\x03"]) * dice.choice([*range(30, 36), 64, 65, 66, dice.randrange(100, 300)])
     return making.random_line(dice, some) + crowd + making.random_line(dice, some)
 
 
+# Nothing, each byte that means something and one that does not, some of them, and more than can be held.
+PIECES = (b"", b"\x02", b"\x03", b"x", b"xx\x02", b"1" * 40)
+
+
 def line_cases(dice, order, rounds):
-    """Every state of an order with an empty piece, with each byte that means something, with telegrams of that order, and at the
-    line's end."""
-    some = making.in_order(making.some_telegram, order)
+    """Every state of an order, judged and at the line's end. A refused one takes no piece. A good one is fed each of some pieces and
+    telegrams of that order, and uses up two of the pieces, in turn, and telegrams. Then telegrams alone, a good one of each layout
+    and wrong ones of each number, and so many by dice; and crowded pieces."""
+    some, pieces = making.in_order(making.some_telegram, order), itertools.cycle(PIECES)
     for state in states(dice, order):
         yield well_formed_case(state)
         yield end_case(state)
-        for piece in (b"", b"\x02", b"\x03", b"x", b"xx\x02", b"1" * 40):
+        if not line.well_formed(state):
+            yield feed_case(state, next(pieces))
+            yield use_up_case(state, next(pieces))
+            continue
+        for piece in PIECES:
             yield feed_case(state, piece)
-            yield use_up_case(state, piece)
-        for _ in range(6):
-            yield feed_case(state, making.random_line(dice, some)[:200])
-        for _ in range(3):
-            yield use_up_case(state, making.random_line(dice, some))
-        yield use_up_case(state, crowded_piece(dice, some))
-    for _ in range(rounds):
-        yield feed_case(line.fresh(order), some(dice, True))
-        yield use_up_case(line.fresh(order), some(dice, True))
-    for piece in [b"x" * 8000, b"x" * 4000 + b"\x02" * 4000] + [crowded_piece(dice, some) for _ in range(rounds // 10)]:
-        yield feed_case(line.fresh(order), piece)
-        yield use_up_case(line.fresh(order), piece)
+        yield use_up_case(state, next(pieces) + next(pieces))
+        yield feed_case(state, making.random_line(dice, some)[:120])
+        yield use_up_case(state, making.random_line(dice, some)[:200])
+    wrong = [*(telegram for telegram, _ in trailers.wrong_ones(True, order)), *unnamed.shown_ones(True, order)]
+    for telegram in [*trailers.good_ones(True, order), *wrong]:
+        yield feed_case(line.fresh(order), telegram)
+        yield use_up_case(line.fresh(order), telegram)
+    for number in range(rounds):
+        yield (feed_case if number % 3 else use_up_case)(line.fresh(order), some(dice, True))
+    for _ in range(rounds // 10):
+        yield use_up_case(line.fresh(order), crowded_piece(dice, some))
 
 
-def stray_run_cases(dice, order):
-    """A run of stray bytes of each length, alone and before a telegram of an order, fed to a reader whose two counts wrap in it or at
-    the byte behind it."""
-    for length in stray_runs.LENGTHS:
-        run, telegram = stray_runs.run_of(dice, length), making.some_telegram(dice, True, order)
+def long_pieces():
+    """Pieces about as long as the program's buffer, of stray bytes and of events."""
+    yield feed_case(line.fresh(), b"x" * 8000)
+    yield use_up_case(line.fresh(), b"x" * 4000 + b"\x02" * 4000)
+
+
+def stray_run_cases(dice, order, lengths):
+    """A run of stray bytes of each of these lengths before a telegram's beginning, fed to a reader whose two counts wrap in it or at
+    the byte behind it. Around the edges of the blocks in which runs may be looked at: also alone, and around a telegram of an order."""
+    for length in lengths:
+        run = stray_runs.run_of(dice, length)
         state = line.with_held(b"", *(line.WRAP - 1 - dice.randrange(length + 1) for _ in range(2)), order)
-        for piece in (run, run + b"\x02", run + telegram):
-            yield feed_case(state, piece)
-        yield use_up_case(state, run + telegram + run)
+        yield feed_case(state, run + b"\x02")
+        if length in stray_runs.EDGES:
+            yield feed_case(state, run)
+            yield use_up_case(state, run + making.some_telegram(dice, True, order) + run)
 
 
 def manual_examples_on_lines():

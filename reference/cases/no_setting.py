@@ -26,14 +26,14 @@ def meter_cases():
 
 
 def unnamed_writes():
-    """Every status of every dated layout, told by the 6021's characters. Then what is refused whatever the buffer's length: records
-    without a date, and bad ones of every layout."""
+    """Every status of every dated layout, told by the 6021's characters. Then what is refused whatever the buffer's length, with some
+    lengths in turn: records without a date, and bad ones of every layout."""
     for record in unnamed.with_every_status():
         yield write_case(record, None, ONE)
-    for record, room in itertools.product(unnamed.without_date(), (0, 16, 17, 18, ONE)):
-        yield write_case(record, None, room)
-    bad = [record for _, record in unnamed.bad_ones()] + [*second_60.bad_ones()]
-    for record, room in itertools.product(bad, (0, 16, 18, ONE)):
+    rooms = itertools.cycle((0, 16, 17, 18, ONE))
+    for record in 2 * [*unnamed.without_date()] + [record for _, record in unnamed.bad_ones()]:
+        yield write_case(record, None, next(rooms))
+    for record, room in itertools.product([*unnamed.bad_of_each_number(), *second_60.bad_ones()], (0, 18)):
         yield write_case(record, None, room)
 
 
@@ -42,28 +42,31 @@ SEVERAL_ROOMS = (0, 16, 17, 18, 35, 36, 37, 53, 54, 55, MANY)
 
 
 def several_unnamed(dice):
-    """Good records one behind another, up to one more than any buffer takes; then with one among them that is refused, behind as many
-    as the buffer takes, which tells its own number although there is no room; and behind one less, and one more, where 13 comes
-    before it."""
+    """Good records one behind another, up to one more than any buffer takes; then with one among them that is refused, some for each
+    buffer in turn: behind as many as the buffer takes, where it tells its own number although there is no room; behind one less; and
+    behind one more, where 13 comes before it."""
     def good_ones(number):
         return [unnamed.good_by_dice(dice) for _ in range(number)]
 
     for room, number in itertools.product(SEVERAL_ROOMS, range(5)):
         yield several_case(good_ones(number), None, room)
-    refused = [*unnamed.without_date(), *unnamed.bad_of_each_number(), *second_60.bad_ones()]
-    for room, record in itertools.product(SEVERAL_ROOMS, refused):
+    refused = itertools.cycle([*unnamed.without_date(), *unnamed.bad_of_each_number(), *second_60.bad_ones()])
+    for room in SEVERAL_ROOMS:
         full = room // unnamed.SIZE
-        for before in sorted({max(full - 1, 0), full, full + 1}):
+        for before, record in itertools.product(sorted({max(full - 1, 0), full, full + 1}), itertools.islice(refused, 4)):
             yield several_case([*good_ones(before), record, *good_ones(1)], None, room)
 
 
 def unnamed_on_lines(dice):
-    """What unnamed writes made, on a line: a telegram alone, whole and cut at each place; several one behind another, whole and cut
-    anywhere, also more than are handed on at a time. Bare telegrams, on lines of their own, are stray bytes all through."""
+    """What unnamed writes made, on a line: a telegram alone, whole, one cut at each place and others anywhere; several one behind
+    another, whole and cut anywhere, also more than are handed on at a time. Bare telegrams, on lines of their own, are stray bytes all
+    through."""
     dated_ones = [record for record in [*one_of_each(), *second_60.one_of_each()] if not records.is_time_only(record)]
-    for record in [*unnamed.METER_RECORDS] + dated_ones:
-        yield from cut_everywhere(unnamed.written([record]))
-    for number in [2, 3, 4] * 6:
+    first, second = unnamed.METER_RECORDS
+    yield from cut_everywhere(unnamed.written([first]))
+    for record in [second, *dated_ones]:
+        yield from on_a_line(unnamed.written([record]), dice.randrange(1, unnamed.SIZE))
+    for number in (2, 3, 4):
         captured = unnamed.written([unnamed.good_by_dice(dice) for _ in range(number)])
         yield from on_a_line(captured)
         yield from on_a_line(captured, *sorted(dice.sample(range(1, len(captured)), dice.randrange(1, 5))))

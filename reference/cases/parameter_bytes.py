@@ -32,6 +32,7 @@ def parameter_6038_cases():
         yield parameter_6038_case(byte)
     for fields in itertools.product((7, 8), PARITY_NUMBERS, (1, 2), RATES + OTHER_RATES):
         yield setting_6038_case(parameter_6038.Parameter(*fields))
-    for data_bits, parity, stop_bits, baud in itertools.product(
-            (0, 1, 2, 3, 5, 6, 7, 8, 9, 255), PARITY_NUMBERS, (0, 1, 2, 3, 5, 7, 8, 9, 255), (9600, 9601, 0, 2 ** 32 - 1, 150)):
-        yield setting_6038_case(parameter_6038.Parameter(data_bits, parity, stop_bits, baud))
+    wrong_bits = itertools.product((0, 1, 2, 3, 5, 6, 7, 8, 9, 255), PARITY_NUMBERS, (0, 1, 2, 3, 5, 7, 8, 9, 255), (9600,))
+    with_wrong_rates = itertools.product((6, 7, 9), PARITY_NUMBERS, (0, 2, 3), (9601, 0, 2 ** 32 - 1, 150))
+    for fields in itertools.chain(wrong_bits, with_wrong_rates):
+        yield setting_6038_case(parameter_6038.Parameter(*fields))

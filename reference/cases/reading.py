@@ -1,8 +1,14 @@
 """Telegrams to read."""
 
+import itertools
+
 import making
 import manual_examples
+import trailers
+import unnamed
 from cases.one_case import read_case
+from layouts import AS_PRINTED, LAYOUTS, STATUS, STATUS_AS_5500, STATUS_AS_6021, WEEKDAY
+from status import HEX_DIGITS
 
 
 def without_frame(telegram):
@@ -18,8 +24,18 @@ def manual_cases():
         yield read_case(without_frame(example.telegram), False)
 
 
+def every_code():
+    """Each dated layout with every status character and every weekday character that four bits have."""
+    for layout, place, byte in itertools.product(STATUS_AS_6021 + STATUS_AS_5500, (STATUS, WEEKDAY), HEX_DIGITS):
+        telegram = trailers.GOOD[layout] + trailers.PRINTED[layout]
+        yield read_case(making.with_byte(telegram, LAYOUTS[layout].index(place), byte), False)
+
+
 def damaged_cases(dice):
-    """Telegrams of every layout, whole and damaged, read in both modes."""
-    for _ in range(1500):
+    """Telegrams of every layout, of bad records, whole and damaged, read in both modes."""
+    for control in (True, False):
+        for telegram in unnamed.shown_ones(control, AS_PRINTED):
+            yield read_case(telegram, control)
+    for _ in range(200):
         control = dice.random() < 0.5
         yield read_case(making.some_telegram(dice, control), control)

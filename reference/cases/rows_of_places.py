@@ -1,7 +1,10 @@
 """Rows of places: those of the layouts, and any others."""
 
+import itertools
+
 import making
 import places
+import trailers
 from cases.one_case import ONE, digits_in_case, digits_out_case, layout_case, render_case, row_of_case, scan_case
 from cases.writing import one_of_each
 from layouts import LAYOUTS, TIME_ONLY
@@ -22,6 +25,13 @@ def fitting(dice, row):
     return making.damaged(dice, found) if found else b""
 
 
+def each_place_wrong(layout):
+    """The bytes of a good telegram of a layout, with a neighbour of the digits and one of the letters in each place in turn."""
+    telegram = trailers.GOOD[layout] + trailers.PRINTED[layout]
+    for at, byte in itertools.product(range(len(telegram)), b"/:@G"):
+        yield making.with_byte(telegram, at, byte)
+
+
 def random_digits(dice, layout):
     """Digits that a layout allows in its code places, with more than four bits now and then."""
     digits = [dice.randrange(10) for _ in range(SLOTS)]
@@ -36,19 +46,21 @@ def layout_cases(dice):
     for layout in LAYOUTS:
         row = places.row_of(layout)
         yield row_of_case(layout)
-        for _ in range(50):
+        for found in each_place_wrong(layout):
+            yield scan_case(row, found)
+        for _ in range(10):
             yield scan_case(row, fitting(dice, row))
             yield digits_in_case(layout, random_digits(dice, layout))
-        for room in range(ONE + 1):
+        for room in (*range(len(row) + 2), ONE):
             yield render_case(row, [dice.randrange(256) for _ in range(SLOTS)], room)
-    for _ in range(500):
+    for _ in range(100):
         row = random_row(dice)
         yield scan_case(row, fitting(dice, row))
         yield render_case(row, [dice.randrange(256) for _ in range(SLOTS)], dice.randrange(ONE + 1))
-    for record in [*one_of_each()] + [making.good_record(dice) for _ in range(300)]:
+    for record in [*one_of_each()] + [making.good_record(dice) for _ in range(40)]:
         yield digits_out_case(record)
     for size in [*range(40), 255, 256, 300]:
-        for _ in range(5):
+        for _ in range(2):
             yield layout_case(bytes(dice.choice(making.LIKELY) for _ in range(size)))
     for trailer in (b"\n\r", b"\r\n", b"\n\n", b"\r\r", b"\n ", b" \n"):
         yield layout_case(b"123456" + trailer)

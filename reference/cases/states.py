@@ -15,7 +15,6 @@ def states(dice, order):
             good = line.with_held(held, fed, dice.choice([0, 7, 4294967295]), order)
             yield good
             yield good._replace(start=(good.start + 1) % line.WRAP)
-            yield good._replace(stray=dice.randrange(2 ** 32))
     for held, size in ((FULL, 39), (FULL, 255), (b"1", 1), (b"\x03", 1), (b"\x02\x02", 2), (b"\x02\x03", 2),
                        (FULL[:37] + b"\x02", 38), (FULL[:37] + b"\x03", 38), (FULL[:24] + b"\x02", 25), (FULL[:24] + b"\x03", 25),
                        (FULL, 37), (FULL[:25], 24), (b"\x021", 1), (b"", 1)):

@@ -1,5 +1,7 @@
 """Records to write, one or several, by each setting."""
 
+import itertools
+
 import making
 import unnamed
 from cases.one_case import MANY, ONE, several_case, write_case
@@ -32,33 +34,47 @@ def bad_records():
 
 
 def writes_of_bad_records(bad):
-    """Refused with the record's own number, whatever the buffer's length; so behind a good one."""
-    for record in bad:
-        for setting in SETTINGS:
+    """Refused with the record's own number, whatever the buffer's length, with every third setting in turn; so behind a good one."""
+    for number, record in enumerate(bad):
+        for setting in SETTINGS[number % 3::3]:
             yield write_case(record, setting, 0)
             yield write_case(record, setting, ONE)
         yield several_case([TimeOnly("6021t", 1, 2, 3), record], Setting(True, False), MANY)
 
 
 def writes_around_the_edge(good):
-    """Records with each setting, into buffers from one byte short to one byte more, and into none; with no setting into every one up
-    to two bytes more."""
-    for record in good:
-        for setting in SETTINGS:
-            size = unnamed.SIZE if setting is None else length(record.layout, setting.control_characters)
-            for room in range(size + 3) if setting is None else (0, size - 1, size, size + 1):
+    """Records with each setting, into a buffer that is one byte short and one that is long enough; in turn into none, and into one
+    that is a byte longer. With no setting into those from two bytes short to two bytes more."""
+    for number, record in enumerate(good):
+        for setting in SETTINGS[1:]:
+            size = length(record.layout, setting.control_characters)
+            for room in (size - 1, size):
                 yield write_case(record, setting, room)
+        for setting in SETTINGS[1 + number::5]:
+            yield write_case(record, setting, 0)
+            yield write_case(record, setting, length(record.layout, setting.control_characters) + 1)
+        for room in (0, *range(unnamed.SIZE - 2, unnamed.SIZE + 3)):
+            yield write_case(record, None, room)
 
 
 def writes_by_dice(dice):
     """Any record with any setting and any buffer."""
-    for _ in range(1000):
+    for _ in range(150):
         yield write_case(making.any_record(dice), dice.choice(SETTINGS), dice.randrange(ONE + 1))
+
+
+def several_in_each_setting():
+    """With each named setting up to three telegrams, and one more that has no room, or that is refused with each number in turn."""
+    good, bad = TimeOnly("6021t", 1, 2, 3), itertools.cycle(unnamed.bad_of_each_number())
+    for setting, stand in itertools.product(SETTINGS[1:], range(4)):
+        size = length(good.layout, setting.control_characters)
+        yield several_case((stand + 1) * [good], setting, (stand + 1) * size - 1)
+        yield several_case([*stand * [good], next(bad)], setting, MANY)
 
 
 def several_by_dice(dice):
     """Some records one behind another, one of them sometimes bad, into a buffer that is sometimes short."""
-    for _ in range(500):
+    for _ in range(50):
         some = [making.good_record(dice) for _ in range(dice.randrange(5))]
         if dice.random() < 0.4:
             some.insert(dice.randrange(len(some) + 1), making.any_record(dice))
