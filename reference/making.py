@@ -66,6 +66,12 @@ def with_byte(telegram, at, byte):
     return telegram[:at] + bytes([byte]) + telegram[at + 1:]
 
 
+def each_place_wrong(telegram):
+    """A telegram with a neighbour of the digits or of the letters, or a byte that is one bit off, in each place in turn."""
+    for at, right in enumerate(telegram):
+        yield from (with_byte(telegram, at, byte) for byte in (*b"/:@G", right ^ 1) if byte != right)
+
+
 def damaged(dice, telegram):
     """A telegram with some bytes changed, dropped or put in."""
     telegram = bytearray(telegram)

@@ -340,12 +340,6 @@ def all_outcomes():
     return [(an_example, reads_as(an_example)) for an_example in EXAMPLES]
 
 
-def outside_outcomes():
-    """The examples outside the seven layouts with the number they get; the DCF-Slave
-    string gets a record."""
-    return [pair for pair in all_outcomes() if not pair[0].inside]
-
-
 def print_all():
     """One line for each example."""
     for an_example, outcome in all_outcomes():

@@ -1,7 +1,5 @@
 """Rows of places: those of the layouts, and any others."""
 
-import itertools
-
 import making
 import places
 import trailers
@@ -25,13 +23,6 @@ def fitting(dice, row):
     return making.damaged(dice, found) if found else b""
 
 
-def each_place_wrong(layout):
-    """The bytes of a good telegram of a layout, with a neighbour of the digits and one of the letters in each place in turn."""
-    telegram = trailers.GOOD[layout] + trailers.PRINTED[layout]
-    for at, byte in itertools.product(range(len(telegram)), b"/:@G"):
-        yield making.with_byte(telegram, at, byte)
-
-
 def random_digits(dice, layout):
     """Digits that a layout allows in its code places, with more than four bits now and then."""
     digits = [dice.randrange(10) for _ in range(SLOTS)]
@@ -46,14 +37,14 @@ def layout_cases(dice):
     for layout in LAYOUTS:
         row = places.row_of(layout)
         yield row_of_case(layout)
-        for found in each_place_wrong(layout):
+        for found in making.each_place_wrong(trailers.GOOD[layout] + trailers.PRINTED[layout]):
             yield scan_case(row, found)
-        for _ in range(10):
+        for _ in range(6):
             yield scan_case(row, fitting(dice, row))
             yield digits_in_case(layout, random_digits(dice, layout))
         for room in (*range(len(row) + 2), ONE):
             yield render_case(row, [dice.randrange(256) for _ in range(SLOTS)], room)
-    for _ in range(100):
+    for _ in range(80):
         row = random_row(dice)
         yield scan_case(row, fitting(dice, row))
         yield render_case(row, [dice.randrange(256) for _ in range(SLOTS)], dice.randrange(ONE + 1))

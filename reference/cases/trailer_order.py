@@ -21,13 +21,6 @@ from layouts import EXCHANGED, ORDERS, other_order
 from records import Dated
 
 
-def each_place_wrong(control, order):
-    """A good telegram of each layout with a neighbour of the digits or of the letters, or a byte that is one bit off, in each place."""
-    for telegram in trailers.good_ones(control, order):
-        for at, right in enumerate(telegram):
-            yield from (making.with_byte(telegram, at, byte) for byte in (*b"/:@G", right ^ 1) if byte != right)
-
-
 def reads_in_order(dice, control, order):
     """Telegrams for one mode: the examples of the manuals as they are and with their trailers exchanged; good and wrong ones; good
     ones with right and wrong trailers, and with a wrong byte in each place; bytes of every length; damaged ones of this order, and of
@@ -45,7 +38,8 @@ def reads_in_order(dice, control, order):
         yield trailers.of_length(dice, size, control, order)
         yield trailers.filler(dice, size, control)
     yield from (trailers.filler(dice, size, control) for size in trailers.LONG)
-    yield from each_place_wrong(control, order)
+    for telegram in trailers.good_ones(control, order):
+        yield from making.each_place_wrong(telegram)
     yield from (making.some_telegram(dice, control, order) for _ in range(60))
     yield from (making.in_any_order(making.some_telegram)(dice, control) for _ in range(30))
     yield from second_60.shown_ones(control, order)
