@@ -11,6 +11,7 @@ import telegrams
 from cases.listing_rows import COUNTS
 from cases.one_case import (MANY, ONE, ROW, count_case, digits_in_case, digits_out_case, feed_case, next_case, read_case, row_case,
                             rule_case, several_case, step_case, use_up_case, utc_case, write_case)
+from cases.seconds import of_every_kind
 from cases.writing import SETTINGS, writes_of_bad_records
 from layouts import ORDERS, length
 from telegrams import Setting
@@ -78,11 +79,6 @@ def second_60_on_lines(dice, order):
         telegram = some(dice, True)
         cut = dice.randrange(1, 9)
         yield use_up_case(line.with_held(telegram[:cut], dice.randrange(2 ** 32), 0, order), telegram[cut:] + piece[:50])
-
-
-def of_every_kind(record):
-    """A record judged, advanced, counted and stepped."""
-    return [rule_case(record), next_case(record), count_case(record), utc_case(record), step_case("K", record), step_case("k", record)]
 
 
 def spelled_case(record, control):

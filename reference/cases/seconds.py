@@ -9,7 +9,6 @@ from cases.writing import bad_records, one_of_each
 from layouts import STATUS_AS_5500, STATUS_AS_6021
 from records import Dated, TimeOnly
 
-
 WHOLE_YEARS = (1980, 1999, 2000, 2079)   # of the other years two months
 
 
@@ -32,27 +31,27 @@ def one_number_changed():
                 yield from (good._replace(**{field: value}) for value in (making.YEARS if field == "year" else making.BYTES))
 
 
+def advanced(record):
+    """A record advanced by a second: as it is, and by the clock's two calls."""
+    return [next_case(record), step_case("K", record), step_case("k", record)]
+
+
+def of_every_kind(record):
+    """A record judged, advanced and counted."""
+    return [rule_case(record), *advanced(record), count_case(record), utc_case(record)]
+
+
 def seconds_cases(dice):
     """Records judged, advanced, stepped and counted in seconds: over month ends, out of the calendar, and of any kind."""
     for record in month_ends():
-        yield next_case(record)
-        yield step_case("K", record)
-        yield step_case("k", record)
+        yield from advanced(record)
     for record in one_number_changed():
         yield rule_case(record)
     for layout in STATUS_AS_6021 + STATUS_AS_5500:
-        last = Dated(layout, "radio", False, False, True, 7, 23, 59, 59, 31, 12, 2079)
-        yield next_case(last)
-        yield step_case("K", last)
-        yield step_case("k", last)
+        yield from advanced(Dated(layout, "radio", False, False, True, 7, 23, 59, 59, 31, 12, 2079))
     bad = [*bad_records(), *unnamed.bad_of_each_layout(), *second_60.bad_of_each_layout()]
     for record in [*one_of_each(), *bad] + [making.any_record(dice) for _ in range(100)]:
-        yield rule_case(record)
-        yield next_case(record)
-        yield step_case("K", record)
-        yield step_case("k", record)
-        yield count_case(record)
-        yield utc_case(record)
+        yield from of_every_kind(record)
     for layout in STATUS_AS_6021 + STATUS_AS_5500:
         yield table_case(layout)
 
