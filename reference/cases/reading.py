@@ -25,8 +25,8 @@ def manual_cases():
 
 
 def every_code():
-    """Each dated layout with every status character and every weekday character that four bits have."""
-    for layout, place, byte in itertools.product(STATUS_AS_6021 + STATUS_AS_5500, (STATUS, WEEKDAY), HEX_DIGITS):
+    """Each dated layout with every status character and every weekday character that four bits have, and with small letters."""
+    for layout, place, byte in itertools.product(STATUS_AS_6021 + STATUS_AS_5500, (STATUS, WEEKDAY), HEX_DIGITS + b"abcdef"):
         telegram = trailers.GOOD[layout] + trailers.PRINTED[layout]
         yield read_case(making.with_byte(telegram, LAYOUTS[layout].index(place), byte), False)
 

@@ -16,6 +16,10 @@ def random_row(dice):
     return [Place(kind, dice.choice(making.LIKELY) if kind == FIXED else dice.randrange(SLOTS)) for kind in kinds]
 
 
+# A slot that is named three times: the last digit counts.
+ONE_SLOT = [Place(DECIMAL, 5), Place(CODE, 5), Place(DECIMAL, 5)]
+
+
 def fitting(dice, row):
     """Bytes that a row takes, mostly: some are then changed, dropped or put in."""
     found = bytearray(len(row))
@@ -44,6 +48,8 @@ def layout_cases(dice):
             yield digits_in_case(layout, random_digits(dice, layout))
         for room in (*range(len(row) + 2), ONE):
             yield render_case(row, [dice.randrange(256) for _ in range(SLOTS)], room)
+    for found in (b"123", b"1A0", b"0F9", b"900", b"9:0"):
+        yield scan_case(ONE_SLOT, found)
     for _ in range(80):
         row = random_row(dice)
         yield scan_case(row, fitting(dice, row))
