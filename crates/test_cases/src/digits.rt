@@ -19,7 +19,7 @@ pub(crate) fn scans(bytes: &[u8]) {
 }
 
 // Lays a row over the first bytes of a buffer.
-fn render_in(out: &mut [u8], room: usize, row: &[u8], digits: [u8; SLOTS]) {
+fn render_in(out: &mut [u8], room: usize, row: &[u8], digits: &[u8; SLOTS]) {
     if out.len() < room {
         return;
     }
@@ -32,13 +32,9 @@ pub(crate) fn renders(bytes: &[u8]) {
     let rest = inputs::behind(bytes, 1);
     let others = inputs::behind(rest, count);
     let room = inputs::wide(inputs::byte(others, SLOTS));
+    let digits = inputs::digits(others);
     let mut out = [inputs::UNTOUCHED; 32];
-    render_in(
-        &mut out,
-        room,
-        inputs::first(rest, count),
-        inputs::digits(others),
-    );
+    render_in(&mut out, room, inputs::first(rest, count), &digits);
     outputs::print_bytes(&out);
 }
 

@@ -35,7 +35,7 @@ fn spelt(rec: Record) -> [u8; BARE] {
     let start = span.start;
     let end = span.end;
     let mut bytes = [0u8; BARE];
-    places::render(&rows[start..end], digits, &mut bytes);
+    places::render(&rows[start..end], &digits, &mut bytes);
     bytes
 }
 
