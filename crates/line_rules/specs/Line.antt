@@ -12,7 +12,7 @@ use Rattle.trailer_rules.specs.declared.Order.{Order}
 use Rattle.telegram_rules.specs.Reading.{readIn}
 use Rattle.ascii.specs.Control.{stx, etx}
 use Rattle.line_rules.specs.declared.Heard.{Heard}
-use Rattle.line_rules.specs.declared.Heard.the-variants.{Nothing, Event, Refused}
+use Rattle.line_rules.specs.declared.Heard.the-variants.{Nothing, Event}
 
 -- "the reader then holds 0 to 38 bytes" (document 02, g). What a line does stands below over any bound, and is in use at this one
 abbrev pub places : ℕ
