@@ -19,5 +19,9 @@ use Rattle.listing_of_logs.specs.Whole.{logListing, verifyListing}
 use Rattle.listing_of_logs.specs.AsPrinted.{TheListingsOfALogAreAsPrinted}
 
 pub as-printed : TheListingsOfALogAreAsPrinted
-unfolding unless isDecimal isCapital codeValue isLeap monthLength monthInRange dateInRange dayExists monthStart dayOf timeInRange timeAllowed timeAloneAllowed timeAloneRefusal plainUtc tableCanSay statusAllowed weekdayAllowed weekdayAgrees datedRefusal placesOf layoutOf statusIn6021 statusIn5500 carried bodyRefusal readIn checkOf filled slotOf bodyOf sealed telegramIn telegramsOf readsWell isKept isGood decimal decimalWithin statusColumn datedColumns timeOnlyColumns refusedRow logHeader slotRow verifyHeader goodRow badRow tailRow badCount rowOf blockRows offsetOf verifiedRow logListing verifyListing
+unfolding unless isDecimal isCapital codeValue isLeap monthLength monthInRange dateInRange dayExists monthStart dayOf timeInRange timeAllowed
+    timeAloneAllowed timeAloneRefusal plainUtc tableCanSay statusAllowed weekdayAllowed weekdayAgrees datedRefusal placesOf layoutOf statusIn6021
+    statusIn5500 carried bodyRefusal readIn checkOf filled slotOf bodyOf sealed telegramIn telegramsOf readsWell isKept isGood decimal decimalWithin
+    statusColumn datedColumns timeOnlyColumns refusedRow logHeader slotRow verifyHeader goodRow badRow tailRow badCount rowOf blockRows offsetOf
+    verifiedRow logListing verifyListing
 as-printed = (refl, refl)

@@ -134,7 +134,10 @@ module _ (number : ℕ) (block page : List ℕ) (count at used : ℕ) (filling :
           reads = read-on .1;
           so-far =
               ap₂ (λ l k. l ++ rowsFrom number k others)
-              (ap (λ k. take (used + k) next-page) (sym size) ∙ ap (take (used + length row)) next-is ∙ take-at (take used page ++ row) (drop (length row) (drop used page)) (used + length row) front) (add-one at)
+              (ap (λ k. take (used + k) next-page) (sym size)
+              ∙ ap (take (used + length row)) next-is
+              ∙ take-at (take used page ++ row) (drop (length row) (drop used page)) (used + length row) front)
+              (add-one at)
               ∙ append-assoc (take used page) row (rowsFrom number (suc at) others)
               ∙ ap (λ o. take used page ++ (bytesOf o ++ rowsFrom number (suc at) others)) (sym (here .is))
               ∙ ap (λ ts. take used page ++ rowsFrom number at ts) (sym first-left)

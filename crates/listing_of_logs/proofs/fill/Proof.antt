@@ -24,7 +24,10 @@ cast-count : tie.Need-cast-count Inv-loop μ-loop
 cast-count c = omega (arith, c .shared-slice-known2 .given 480)
 
 loop-holds : tie.Need-loop-holds Inv-loop μ-loop
-loop-holds c = none-yet (c .before .before .before .args .number) (c .before .before .before .args .block .now) (c .before .before .before .args .page .now) (c .before .before .before .pre .0) (c .before .before .before .pre .1)
+loop-holds c =
+    let a = c .before .before .before .args in
+    let given = c .before .before .before .pre in
+    none-yet (a .number) (a .block .now) (a .page .now) (given .0) (given .1)
 
 mul-start : tie.Need-mul-start Inv-loop μ-loop
 mul-start c = omega (arith, c .before .loop .inv .few)
@@ -54,14 +57,30 @@ part-lay-row-end-2 : tie.Need-part-lay-row-end-2 Inv-loop μ-loop
 part-lay-row-end-2 c = search needs
 
 lay-row-requires : tie.Need-lay-row-requires Inv-loop μ-loop
-lay-row-requires c κs = omega (arith, ap length (slot-at (c .before .before .before .before .before .before .before .args .block .now) (c .before .before .before .loop .at)), length-take slotSize (drop (slotSize * c .before .before .before .loop .at) (c .before .before .before .before .before .before .before .args .block .now)), length-drop (slotSize * c .before .before .before .loop .at) (c .before .before .before .before .before .before .before .args .block .now), good-length (c .before .before .before .before .before .before .before .args .block .now) (c .before .before .before .before .before .before .before .pre .0), c .before .before .before .loop .inv .few)
+lay-row-requires c κs =
+    let l = c .before .before .before .loop in
+    let block = c .before .before .before .before .before .before .before .args .block .now in
+    let slots-on = drop (slotSize * l .at) block in
+    omega (
+      arith,
+      ap length (slot-at block (l .at)),
+      length-take slotSize slots-on,
+      length-drop (slotSize * l .at) block,
+      good-length block (c .before .before .before .before .before .before .before .pre .0),
+      l .inv .few,
+    )
 
 enum-known-n : tie.Need-enum-known-n Inv-loop μ-loop
 enum-known-n c = c .match .keys1
 
 add-used : tie.Need-add-used Inv-loop μ-loop
 add-used c =
-    let next = one-more (c .before .before .before .before .before .before .before .before .before .before .before .before .before .args .number) (c .before .before .before .before .before .before .before .before .before .before .before .before .before .args .block .now) (c .before .before .before .before .before .before .before .before .before .loop .page) _ (c .before .before .before .before .before .before .before .before .before .loop .at) (c .before .before .before .before .before .before .before .before .before .loop .used) (c .before .before .before .before .before .before .before .before .before .loop .inv) (omega arith) (c .before .before .before .before .before .before .before .before .loop-test .taken) _ (slot-at (c .before .before .before .before .before .before .before .before .before .before .before .before .before .args .block .now) (c .before .before .before .before .before .before .before .before .before .loop .at)) (rowAnswer (c .before .before .before .before .before .lay-row .result)) (c .before .before .before .before .before .lay-row .last .1 .1 .1 .0) (c .before .before .before .before .before .lay-row .ensures) _ (ap rowAnswer (c .before .n .given .1)) in
+    let a = c .before .before .before .before .before .before .before .before .before .before .before .before .before .args in
+    let l = c .before .before .before .before .before .before .before .before .before .loop in
+    let row = c .before .before .before .before .before .lay-row in
+    let next =
+    one-more (a .number) (a .block .now) (l .page) _ (l .at) (l .used) (l .inv) (omega arith) (c .before .before .before .before .before .before .before .before .loop-test .taken)
+    _ (slot-at (a .block .now) (l .at)) (rowAnswer (row .result)) (row .last .1 .1 .1 .0) (row .ensures) _ (ap rowAnswer (c .before .n .given .1)) in
     omega (arith, next .few, next .inside, next .fits)
 
 add-at : tie.Need-add-at Inv-loop μ-loop
@@ -71,16 +90,33 @@ loop-less : tie.Need-loop-less Inv-loop μ-loop
 loop-less c = omega arith
 
 loop-again : tie.Need-loop-again Inv-loop μ-loop
-loop-again c = one-more (c .before .before .before .before .before .before .before .before .before .before .before .before .before .args .number) (c .before .before .before .before .before .before .before .before .before .before .before .before .before .args .block .now) (c .before .before .before .before .before .before .before .before .before .loop .page) _ (c .before .before .before .before .before .before .before .before .before .loop .at) (c .before .before .before .before .before .before .before .before .before .loop .used) (c .before .before .before .before .before .before .before .before .before .loop .inv) (omega arith) (c .before .before .before .before .before .before .before .before .loop-test .taken) _ (slot-at (c .before .before .before .before .before .before .before .before .before .before .before .before .before .args .block .now) (c .before .before .before .before .before .before .before .before .before .loop .at)) (rowAnswer (c .before .before .before .before .before .lay-row .result)) (c .before .before .before .before .before .lay-row .last .1 .1 .1 .0) (c .before .before .before .before .before .lay-row .ensures) _ (ap rowAnswer (c .before .n .given .1))
+loop-again c =
+    let a = c .before .before .before .before .before .before .before .before .before .before .before .before .before .args in
+    let l = c .before .before .before .before .before .before .before .before .before .loop in
+    let row = c .before .before .before .before .before .lay-row in
+    one-more (a .number) (a .block .now) (l .page) _ (l .at) (l .used) (l .inv) (omega arith) (c .before .before .before .before .before .before .before .before .loop-test .taken)
+    _ (slot-at (a .block .now) (l .at)) (rowAnswer (row .result)) (row .last .1 .1 .1 .0) (row .ensures) _ (ap rowAnswer (c .before .n .given .1))
 
 enum-told : tie.Need-enum-told Inv-loop μ-loop
 enum-told c = c .match .keys2
 
 same-length : tie.Need-same-length Inv-loop μ-loop
-same-length c = absurd (not-refused (c .before .before .before .before .before .before .before .before .before .before .before .before .args .number) (c .before .before .before .before .before .before .before .before .before .before .before .before .args .block .now) (c .before .before .before .before .before .before .before .before .loop .page) _ (c .before .before .before .before .before .before .before .before .loop .at) (c .before .before .before .before .before .before .before .before .loop .used) (c .before .before .before .before .before .before .before .before .loop .inv) (omega arith) (c .before .before .before .before .before .before .before .loop-test .taken) _ (slot-at (c .before .before .before .before .before .before .before .before .before .before .before .before .args .block .now) (c .before .before .before .before .before .before .before .before .loop .at)) (rowAnswer (c .before .before .before .before .lay-row .result)) (c .before .before .before .before .lay-row .last .1 .1 .1 .0) (c .before .before .before .before .lay-row .ensures) _ (ap rowAnswer (c .enum-told .given .1)))
+same-length c =
+    let a = c .before .before .before .before .before .before .before .before .before .before .before .before .args in
+    let l = c .before .before .before .before .before .before .before .before .loop in
+    let row = c .before .before .before .before .lay-row in
+    absurd
+    (not-refused (a .number) (a .block .now) (l .page) _ (l .at) (l .used) (l .inv) (omega arith) (c .before .before .before .before .before .before .before .loop-test .taken)
+    _ (slot-at (a .block .now) (l .at)) (rowAnswer (row .result)) (row .last .1 .1 .1 .0) (row .ensures) _ (ap rowAnswer (c .enum-told .given .1)))
 
 returns : tie.Need-returns Inv-loop μ-loop
-returns c = absurd (not-refused (c .before .before .before .before .before .before .before .before .before .before .before .before .args .number) (c .before .before .before .before .before .before .before .before .before .before .before .before .args .block .now) (c .before .before .before .before .before .before .before .before .loop .page) _ (c .before .before .before .before .before .before .before .before .loop .at) (c .before .before .before .before .before .before .before .before .loop .used) (c .before .before .before .before .before .before .before .before .loop .inv) (omega arith) (c .before .before .before .before .before .before .before .loop-test .taken) _ (slot-at (c .before .before .before .before .before .before .before .before .before .before .before .before .args .block .now) (c .before .before .before .before .before .before .before .before .loop .at)) (rowAnswer (c .before .before .before .before .lay-row .result)) (c .before .before .before .before .lay-row .last .1 .1 .1 .0) (c .before .before .before .before .lay-row .ensures) _ (ap rowAnswer (c .enum-told .given .1)))
+returns c =
+    let a = c .before .before .before .before .before .before .before .before .before .before .before .before .args in
+    let l = c .before .before .before .before .before .before .before .before .loop in
+    let row = c .before .before .before .before .lay-row in
+    absurd
+    (not-refused (a .number) (a .block .now) (l .page) _ (l .at) (l .used) (l .inv) (omega arith) (c .before .before .before .before .before .before .before .loop-test .taken)
+    _ (slot-at (a .block .now) (l .at)) (rowAnswer (row .result)) (row .last .1 .1 .1 .0) (row .ensures) _ (ap rowAnswer (c .enum-told .given .1)))
 
 same-length-2 : tie.Need-same-length-2 Inv-loop μ-loop
 same-length-2 c = c .before .loop .inv .room ∙ sym (c .before .before .before .before .before .pre .1)

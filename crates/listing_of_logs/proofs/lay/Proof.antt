@@ -37,8 +37,13 @@ loop-less c = omega arith
 loop-again : tie.Need-loop-again Inv-loop μ-loop
 loop-again c =
     let l = c .before .before .loop in
-    let page = c .before .before .before .before .args .page .now in
-    (omega arith, length-set (l .out) (l .at) _ ∙ l .inv .1, ap (λ o. set o (l .at) (getD page (l .at) 0)) (l .inv .2) ∙ copy-step page (c .before .before .before .before .args .out .now) (l .at) (omega (arith, c .before .before .before .before .pre)) (omega (arith, c .before .before .before .if1 .left)))
+    let a = c .before .before .before .before .args in
+    let page = a .page .now in (
+      omega arith,
+      length-set (l .out) (l .at) _ ∙ l .inv .1,
+      ap (λ o. set o (l .at) (getD page (l .at) 0)) (l .inv .2)
+          ∙ copy-step page (a .out .now) (l .at) (omega (arith, c .before .before .before .before .pre)) (omega (arith, c .before .before .before .if1 .left)),
+    )
 
 same-length : tie.Need-same-length Inv-loop μ-loop
 same-length c = c .before .loop .inv .1

@@ -27,13 +27,15 @@ same-length c = search needs
 returns : tie.Need-returns
 returns c =
     let a = c .before .before .before .before .before .before .before .before .before .before .args in
-    ap (λ o. laid o (a .out .now)) (row-read (a .number) (a .at) (telegramIn (a .slot .now)) _ (sym (ap recordAnswer (c .before .before .before .before .before .rec .given .1)) ∙ c .before .before .before .before .before .before .before .read-slot .ensures))
+    let read = sym (ap recordAnswer (c .before .before .before .before .before .rec .given .1)) ∙ c .before .before .before .before .before .before .before .read-slot .ensures in
+    ap (λ o. laid o (a .out .now)) (row-read (a .number) (a .at) (telegramIn (a .slot .now)) _ read)
     ∙ c .before .before .slot-row .ensures
 
 returns-2 : tie.Need-returns-2
 returns-2 c =
     let a = c .before .before .before .before .before .before .args in
-    ap (λ o. laid o (a .out .now)) (row-read (a .number) (a .at) (telegramIn (a .slot .now)) _ (sym (ap recordAnswer (c .before .refusal .given .1)) ∙ c .before .before .before .read-slot .ensures))
+    let read = sym (ap recordAnswer (c .before .refusal .given .1)) ∙ c .before .before .before .read-slot .ensures in
+    ap (λ o. laid o (a .out .now)) (row-read (a .number) (a .at) (telegramIn (a .slot .now)) _ read)
     ∙ laid-refused _ (a .out .now)
 
 pub lay-row-spec : {M : Type 1} → statement M

@@ -33,7 +33,9 @@ read-requires : tie.Need-read-requires
 read-requires c κs = search needs
 
 returns : tie.Need-returns
-returns c = c .read .ensures ∙ ap (readOf true) (slot-part (c .before .before .before .before .before .args .slot .now) _ (c .before .before .before .before .before .pre) (c .before .before .smaller .ensures))
+returns c =
+    let slot = c .before .before .before .before .before .args .slot .now in
+    c .read .ensures ∙ ap (readOf true) (slot-part slot _ (c .before .before .before .before .before .pre) (c .before .before .smaller .ensures))
 
 pub read-slot-spec : {M : Type 1} → statement M
 read-slot-spec =

@@ -20,7 +20,9 @@ same-length c = search needs
 returns : tie.Need-returns
 returns c =
     let a = c .before .before .before .before .before .before .before .before .args in
-    ap (λ rows. laid (done rows) (a .out .now)) (rows-bad (a .number) (a .block .now) (sym (c .before .before .before .before .before .is-good .ensures) ∙ not-true _ (c .before .before .before .before .if1 .taken))) ∙ c .before .before .block-row .ensures
+    let bad = sym (c .before .before .before .before .before .is-good .ensures) ∙ not-true _ (c .before .before .before .before .if1 .taken) in
+    ap (λ rows. laid (done rows) (a .out .now)) (rows-bad (a .number) (a .block .now) bad)
+    ∙ c .before .before .block-row .ensures
 
 slice-aggregate-fill : tie.Need-slice-aggregate-fill
 slice-aggregate-fill c = search needs
@@ -39,8 +41,11 @@ same-length-2 c = search needs
 
 returns-2 : tie.Need-returns-2
 returns-2 c =
-    let a = c .before .before .before .before .before .before .before .before .before .before .before .before .args in
-    ap (λ rows. laid (done rows) (a .out .now)) (rows-good (a .number) (a .block .now) (sym (c .before .before .before .before .before .before .before .before .before .is-good .ensures) ∙ not-false _ (c .before .before .before .before .before .before .before .before .if1 .left)) ∙ sym (c .before .before .before .before .before .before .fill .ensures .1)) ∙ c .before .before .lay .ensures
+    let tested = c .before .before .before .before .before .before .before .before in
+    let a = tested .before .before .before .before .args in
+    let good = sym (tested .before .is-good .ensures) ∙ not-false _ (tested .if1 .left) in
+    let rows = rows-good (a .number) (a .block .now) good ∙ sym (c .before .before .before .before .before .before .fill .ensures .1) in
+    ap (λ l. laid (done l) (a .out .now)) rows ∙ c .before .before .lay .ensures
 
 pub rows-of-spec : {M : Type 1} → statement M
 rows-of-spec =

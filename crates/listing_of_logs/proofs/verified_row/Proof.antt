@@ -28,10 +28,13 @@ returns : tie.Need-returns
 returns c =
     let a = c .before .before .before .before .before .before .before .before .before .args in
     let bad = sym (c .before .before .before .before .before .is-good .ensures) ∙ not-true _ (c .before .before .before .before .if1 .taken) in
-    (sym bad, ap (λ row. laid (done row) (a .out .now)) (verified-bad (a .number) (a .block .now) bad ∙ ap (badRow (a .number)) (sym (c .before .before .before .before .before .before .offset-of .ensures))) ∙ c .before .before .bad-row .ensures)
+    let row = verified-bad (a .number) (a .block .now) bad ∙ ap (badRow (a .number)) (sym (c .before .before .before .before .before .before .offset-of .ensures)) in
+    (sym bad, ap (λ r. laid (done r) (a .out .now)) row ∙ c .before .before .bad-row .ensures)
 
 shared-slice-read-good-row : tie.Need-shared-slice-read-good-row
-shared-slice-read-good-row c = omega (arith, good-length (c .before .before .before .before .before .before .args .block .now) (sym (c .before .before .is-good .ensures) ∙ not-false _ (c .before .if1 .left)))
+shared-slice-read-good-row c =
+    let good = sym (c .before .before .is-good .ensures) ∙ not-false _ (c .before .if1 .left) in
+    omega (arith, good-length (c .before .before .before .before .before .before .args .block .now) good)
 
 good-row-requires : tie.Need-good-row-requires
 good-row-requires c κs = search needs
@@ -43,7 +46,10 @@ returns-2 : tie.Need-returns-2
 returns-2 c =
     let a = c .before .before .before .before .before .before .before .before .before .before .args in
     let good = sym (c .before .before .before .before .before .before .is-good .ensures) ∙ not-false _ (c .before .before .before .before .before .if1 .left) in
-    (sym good, ap (λ row. laid (done row) (a .out .now)) (verified-good (a .number) (a .block .now) good ∙ ap (λ o. goodRow (a .number) o (getD (a .block .now) 480 0)) (sym (c .before .before .before .before .before .before .before .offset-of .ensures))) ∙ c .before .before .good-row .ensures)
+    let row =
+    verified-good (a .number) (a .block .now) good
+    ∙ ap (λ o. goodRow (a .number) o (getD (a .block .now) 480 0)) (sym (c .before .before .before .before .before .before .before .offset-of .ensures)) in
+    (sym good, ap (λ r. laid (done r) (a .out .now)) row ∙ c .before .before .good-row .ensures)
 
 pub verified-row-spec : {M : Type 1} → statement M
 verified-row-spec =
