@@ -14,5 +14,7 @@ use Rattle.listing_of_lines.specs.Whole.{listingIn}
 use Rattle.listing_of_lines.specs.AsPrinted.{TheWholeListingIsAsPrinted}
 
 pub as-printed : TheWholeListingIsAsPrinted
-unfolding unless isDecimal isCapital codeValue isLeap monthLength monthInRange dateInRange dayExists monthStart dayOf timeInRange timeAllowed timeAloneAllowed timeAloneRefusal plainUtc tableCanSay statusAllowed weekdayAllowed weekdayAgrees datedRefusal placesOf layoutOf statusIn6021 statusIn5500 carried bodyRefusal readIn decimal decimalWithin headerRow datedColumns recordRow refusedRow strayRow statusColumn listingIn
+unfolding unless isDecimal isCapital codeValue isLeap monthLength monthInRange dateInRange dayExists monthStart dayOf timeInRange timeAllowed
+    timeAloneAllowed timeAloneRefusal plainUtc tableCanSay statusAllowed weekdayAllowed weekdayAgrees datedRefusal placesOf layoutOf statusIn6021
+    statusIn5500 carried bodyRefusal readIn decimal decimalWithin headerRow datedColumns recordRow refusedRow strayRow statusColumn listingIn
 as-printed = (refl, refl, refl, refl, refl)

@@ -71,6 +71,12 @@ read-number order control bytes n e = go (layoutOf (bodyIn order control bytes))
         → after found (λ layout. unless (2 when (control && not (framed bytes)) else bodyRefusal layout (bodyIn order control bytes)) (carried layout (bodyIn order control bytes))) ≡ refused n
         → n ≤ 8
     go (done layout) small e =
-        let number = 2 when (control && not (framed bytes)) else bodyRefusal layout (bodyIn order control bytes) in
-        omega (arith, was-refused number n (carried layout (bodyIn order control bytes)) e, else-small (2 when (control && not (framed bytes))) (bodyRefusal layout (bodyIn order control bytes)) (when-small 2 (control && not (framed bytes)) (omega arith)) (body-small layout (bodyIn order control bytes)))
+        let body = bodyIn order control bytes in
+        let unframed = control && not (framed bytes) in
+        let number = 2 when unframed else bodyRefusal layout body in
+        omega (
+          arith,
+          was-refused number n (carried layout body) e,
+          else-small (2 when unframed) (bodyRefusal layout body) (when-small 2 unframed (omega arith)) (body-small layout body),
+        )
     go (refused k) small e = let same : k ≡ n = cc in omega (arith, same, small)

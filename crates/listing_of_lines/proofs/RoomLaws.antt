@@ -82,7 +82,14 @@ takes-some room enough line good byte piece =
     first-part nextRow (length piece) room start (done row) rest (comes-row line good byte piece)
     ∙ ap (λ o. partThen o start (λ bytes. oneBehindAnother nextRow (length piece) (room - length bytes) rest)) (within-fits room row (omega arith)) in
     let tail = left-tail (length piece) (room - length row) rest in
-    omega (arith, ap (λ s. length (s .left .rest)) stands, ap length (tail .is), length-drop (tail .taken) (rest .rest), length-drop (feeding .taken) whole, some-by (toldBy (line .order) (line .held) byte) (startOf line) (step line byte) (feedOf (step line byte) piece))
+    omega (
+      arith,
+      ap (λ s. length (s .left .rest)) stands,
+      ap length (tail .is),
+      length-drop (tail .taken) (rest .rest),
+      length-drop (feeding .taken) whole,
+      some-by (toldBy (line .order) (line .held) byte) (startOf line) (step line byte) (feedOf (step line byte) piece),
+    )
 
 pub call-takes-some : (room : ℕ) → longestRow ≤ room → (line : Line) → Good line → (byte : ℕ) (piece : List ℕ) → 0 < pageOf room (readerOf line) (byte ∷ piece) .taken
 call-takes-some room enough line good byte piece =

@@ -175,4 +175,5 @@ what-is-laid order lents used =
     let all = line-listed lents (freshLine order) (freshIn order) (good-fresh order) refl used in
     let line = lineAfter (freshLine order) (bytesLent lents) in
     ap₂ (λ rows reader. headerRow ++ rows ++ rowOfEvent (endReader reader .heard) ++ strayRow (reader .stray)) (all .0) (all .1)
-    ∙ ap (λ heard. headerRow ++ rowsOf (eventsOf (freshLine order) (bytesLent lents)) ++ rowOfEvent heard ++ strayRow (readerOf line .stray)) (ap (λ ended. ended .heard) (end-good line (good-after (freshLine order) (bytesLent lents) (good-fresh order))))
+    ∙ ap (λ heard. headerRow ++ rowsOf (eventsOf (freshLine order) (bytesLent lents)) ++ rowOfEvent heard ++ strayRow (readerOf line .stray))
+    (ap (λ ended. ended .heard) (end-good line (good-after (freshLine order) (bytesLent lents) (good-fresh order))))

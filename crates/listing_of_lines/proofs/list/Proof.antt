@@ -63,7 +63,11 @@ add-used c =
     let next =
     let a = c .before .before .before .before .before .before .before .before .before .before .before .before .before .before .before .args in
     let l = c .before .before .before .before .before .before .before .before .before .before .loop in
-    row-stands (rowsIn (length (a .out .now)) (a .reader) (a .piece .now)) (a .piece .now) (a .out .now) (l .out) (l .next) (l .taken) (l .used) (l .inv) (omega arith) (c .before .before .before .before .before .before .before .feed .result) (c .before .before .before .before .before .before .before .feed .ensures) (rowAnswer (c .before .before .before .before .before .row-for .result)) (c .before .before .before .before .before .row-for .last .1 .0) (c .before .before .before .before .before .row-for .ensures) _ (ap rowAnswer (c .before .n .given .1)) in
+    let fed = c .before .before .before .before .before .before .before .feed in
+    let row = c .before .before .before .before .before .row-for in
+    row-stands (rowsIn (length (a .out .now)) (a .reader) (a .piece .now)) (a .piece .now) (a .out .now)
+    (l .out) (l .next) (l .taken) (l .used) (l .inv) (omega arith) (fed .result) (fed .ensures)
+    (rowAnswer (row .result)) (row .last .1 .0) (row .ensures) _ (ap rowAnswer (c .before .n .given .1)) in
     omega (arith, next .0 .laying .fits, next .0 .laying .size)
 
 add-taken : tie.Need-add-taken Inv-loop μ-loop
@@ -71,7 +75,11 @@ add-taken c =
     let next =
     let a = c .before .before .before .before .before .before .before .before .before .before .before .before .before .before .before .before .before .args in
     let l = c .before .before .before .before .before .before .before .before .before .before .before .before .loop in
-    row-stands (rowsIn (length (a .out .now)) (a .reader) (a .piece .now)) (a .piece .now) (a .out .now) (l .out) (l .next) (l .taken) (l .used) (l .inv) (omega arith) (c .before .before .before .before .before .before .before .before .before .feed .result) (c .before .before .before .before .before .before .before .before .before .feed .ensures) (rowAnswer (c .before .before .before .before .before .before .before .row-for .result)) (c .before .before .before .before .before .before .before .row-for .last .1 .0) (c .before .before .before .before .before .before .before .row-for .ensures) _ (ap rowAnswer (c .before .before .before .n .given .1)) in
+    let fed = c .before .before .before .before .before .before .before .before .before .feed in
+    let row = c .before .before .before .before .before .before .before .row-for in
+    row-stands (rowsIn (length (a .out .now)) (a .reader) (a .piece .now)) (a .piece .now) (a .out .now)
+    (l .out) (l .next) (l .taken) (l .used) (l .inv) (omega arith) (fed .result) (fed .ensures)
+    (rowAnswer (row .result)) (row .last .1 .0) (row .ensures) _ (ap rowAnswer (c .before .before .before .n .given .1)) in
     omega (arith, next .0 .inside)
 
 loop-less : tie.Need-loop-less Inv-loop μ-loop
@@ -79,14 +87,22 @@ loop-less c =
     let next =
     let a = c .before .before .before .before .before .before .before .before .before .before .before .before .before .before .before .before .before .args in
     let l = c .before .before .before .before .before .before .before .before .before .before .before .before .loop in
-    row-stands (rowsIn (length (a .out .now)) (a .reader) (a .piece .now)) (a .piece .now) (a .out .now) (l .out) (l .next) (l .taken) (l .used) (l .inv) (omega arith) (c .before .before .before .before .before .before .before .before .before .feed .result) (c .before .before .before .before .before .before .before .before .before .feed .ensures) (rowAnswer (c .before .before .before .before .before .before .before .row-for .result)) (c .before .before .before .before .before .before .before .row-for .last .1 .0) (c .before .before .before .before .before .before .before .row-for .ensures) _ (ap rowAnswer (c .before .before .before .n .given .1)) in
+    let fed = c .before .before .before .before .before .before .before .before .before .feed in
+    let row = c .before .before .before .before .before .before .before .row-for in
+    row-stands (rowsIn (length (a .out .now)) (a .reader) (a .piece .now)) (a .piece .now) (a .out .now)
+    (l .out) (l .next) (l .taken) (l .used) (l .inv) (omega arith) (fed .result) (fed .ensures)
+    (rowAnswer (row .result)) (row .last .1 .0) (row .ensures) _ (ap rowAnswer (c .before .before .before .n .given .1)) in
     omega (arith, next .0 .inside, next .1)
 
 loop-again : tie.Need-loop-again Inv-loop μ-loop
 loop-again c =
     let a = c .before .before .before .before .before .before .before .before .before .before .before .before .before .before .before .before .before .args in
     let l = c .before .before .before .before .before .before .before .before .before .before .before .before .loop in
-    row-stands (rowsIn (length (a .out .now)) (a .reader) (a .piece .now)) (a .piece .now) (a .out .now) (l .out) (l .next) (l .taken) (l .used) (l .inv) (omega arith) (c .before .before .before .before .before .before .before .before .before .feed .result) (c .before .before .before .before .before .before .before .before .before .feed .ensures) (rowAnswer (c .before .before .before .before .before .before .before .row-for .result)) (c .before .before .before .before .before .before .before .row-for .last .1 .0) (c .before .before .before .before .before .before .before .row-for .ensures) _ (ap rowAnswer (c .before .before .before .n .given .1)) .0
+    let fed = c .before .before .before .before .before .before .before .before .before .feed in
+    let row = c .before .before .before .before .before .before .before .row-for in
+    row-stands (rowsIn (length (a .out .now)) (a .reader) (a .piece .now)) (a .piece .now) (a .out .now)
+    (l .out) (l .next) (l .taken) (l .used) (l .inv) (omega arith) (fed .result) (fed .ensures)
+    (rowAnswer (row .result)) (row .last .1 .0) (row .ensures) _ (ap rowAnswer (c .before .before .before .n .given .1)) .0
 
 enum-known-number : tie.Need-enum-known-number Inv-loop μ-loop
 enum-known-number c = c .match .keys2
@@ -99,8 +115,15 @@ returns-2 c =
     let stops =
     let a = c .before .before .before .before .before .before .before .before .before .before .before .before .before .before .before .args in
     let l = c .before .before .before .before .before .before .before .before .before .before .loop in
-    row-stops (rowsIn (length (a .out .now)) (a .reader) (a .piece .now)) (a .piece .now) (a .out .now) (l .out) (l .next) (l .taken) (l .used) (l .inv) (omega arith) (c .before .before .before .before .before .before .before .feed .result) (c .before .before .before .before .before .before .before .feed .ensures) (rowAnswer (c .before .before .before .before .before .row-for .result)) (c .before .before .before .before .before .row-for .last .1 .0) (c .before .before .before .before .before .row-for .ensures) _ (ap rowAnswer (c .before .number .given .1)) in
-    rw (page-good (length (c .before .before .before .before .before .before .before .before .before .before .before .before .before .before .before .args .out .now)) (c .before .before .before .before .before .before .before .before .before .before .before .before .before .before .before .args .reader) (c .before .before .before .before .before .before .before .before .before .before .before .before .before .before .before .args .piece .now) (sym (c .before .before .before .before .before .before .before .before .before .before .before .before .is-well-formed .ensures) ∙ not-false _ (c .before .before .before .before .before .before .before .before .before .before .before .if1 .left))) stops
+    let fed = c .before .before .before .before .before .before .before .feed in
+    let row = c .before .before .before .before .before .row-for in
+    row-stops (rowsIn (length (a .out .now)) (a .reader) (a .piece .now)) (a .piece .now) (a .out .now)
+    (l .out) (l .next) (l .taken) (l .used) (l .inv) (omega arith) (fed .result) (fed .ensures)
+    (rowAnswer (row .result)) (row .last .1 .0) (row .ensures) _ (ap rowAnswer (c .before .number .given .1)) in
+    let tested = c .before .before .before .before .before .before .before .before .before .before .before in
+    let a = tested .before .before .before .before .args in
+    let good = sym (tested .before .is-well-formed .ensures) ∙ not-false _ (tested .if1 .left) in
+    rw (page-good (length (a .out .now)) (a .reader) (a .piece .now) good) stops
 
 same-length-2 : tie.Need-same-length-2 Inv-loop μ-loop
 same-length-2 c = search needs

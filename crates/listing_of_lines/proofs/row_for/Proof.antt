@@ -27,7 +27,8 @@ same-length c = search needs
 
 returns-2 : tie.Need-returns-2
 returns-2 c =
-    ap (λ heard. laid (rowFor heard) (c .before .before .before .before .before .before .before .before .args .out .now)) (c .before .before .before .before .before .heard .given .1) ∙ c .before .before .row .ensures
+    let out = c .before .before .before .before .before .before .before .before .args .out .now in
+    ap (λ heard. laid (rowFor heard) out) (c .before .before .before .before .before .heard .given .1) ∙ c .before .before .row .ensures
 
 returns-3 : tie.Need-returns-3
 returns-3 c = refused-laid (c .before .before .before .before .args .out .now) (c .before .heard2 .given .1)
