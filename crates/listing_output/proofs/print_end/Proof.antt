@@ -13,7 +13,10 @@ is-well-formed-requires : tie.Need-is-well-formed-requires
 is-well-formed-requires c κs = search needs
 
 returns : tie.Need-returns
-returns c = is-refused (c .before .before .args .reader) (endReader (c .before .before .args .reader) .reader) (output.Refused 15) (sym (c .before .is-well-formed .ensures) ∙ not-true _ (c .if1 .taken))
+returns c =
+    let reader = c .before .before .args .reader in
+    let bad = sym (c .before .is-well-formed .ensures) ∙ not-true _ (c .if1 .taken) in
+    is-refused reader (endReader reader .reader) (output.Refused 15) bad
 
 end-requires : tie.Need-end-requires
 end-requires c κs = search needs
@@ -32,14 +35,22 @@ enum-known-number c = search needs
 
 returns-2 : tie.Need-returns-2
 returns-2 c =
-    is-handed (c .before .before .before .before .before .before .before .args .reader) (endReader (c .before .before .before .before .before .before .before .args .reader) .reader) output.Whole _ (sym (c .before .before .before .before .before .before .is-well-formed .ensures) ∙ not-false _ (c .before .before .before .before .before .if1 .left))
+    let reader = c .before .before .before .before .before .before .before .args .reader in
+    let good = sym (c .before .before .before .before .before .before .is-well-formed .ensures) ∙ not-false _ (c .before .before .before .before .before .if1 .left) in
+    is-handed reader (endReader reader .reader) output.Whole _ good
     (ap (λ ended. record { reader = ended .reader; output = output.Whole }) (c .before .before .before .before .end .ensures))
 
 returns-3 : tie.Need-returns-3
-returns-3 c = is-handed (c .before .before .before .before .before .before .before .args .reader) (endReader (c .before .before .before .before .before .before .before .args .reader) .reader) output.Failed _ (sym (c .before .before .before .before .before .before .is-well-formed .ensures) ∙ not-false _ (c .before .before .before .before .before .if1 .left)) refl
+returns-3 c =
+    let reader = c .before .before .before .before .before .before .before .args .reader in
+    let good = sym (c .before .before .before .before .before .before .is-well-formed .ensures) ∙ not-false _ (c .before .before .before .before .before .if1 .left) in
+    is-handed reader (endReader reader .reader) output.Failed _ good refl
 
 returns-4 : tie.Need-returns-4
-returns-4 c = is-handed (c .before .before .before .before .before .before .before .before .args .reader) (endReader (c .before .before .before .before .before .before .before .before .args .reader) .reader) (output.Refused (c .before .number .given .0 .0)) _ (sym (c .before .before .before .before .before .before .before .is-well-formed .ensures) ∙ not-false _ (c .before .before .before .before .before .before .if1 .left)) refl
+returns-4 c =
+    let reader = c .before .before .before .before .before .before .before .before .args .reader in
+    let good = sym (c .before .before .before .before .before .before .before .is-well-formed .ensures) ∙ not-false _ (c .before .before .before .before .before .before .if1 .left) in
+    is-handed reader (endReader reader .reader) (output.Refused (c .before .number .given .0 .0)) _ good refl
 
 pub print-end-spec : {M : Type 1} → statement M
 print-end-spec =

@@ -24,7 +24,10 @@ is-well-formed-requires : tie.Need-is-well-formed-requires Inv-loop μ-loop
 is-well-formed-requires c κs = search needs
 
 returns : tie.Need-returns Inv-loop μ-loop
-returns c = is-refused (c .before .before .before .args .reader) (afterPiece (c .before .before .before .args .reader) (c .before .before .before .args .piece .now)) (output.Refused 15) (sym (c .before .is-well-formed .ensures) ∙ not-true _ (c .if1 .taken))
+returns c =
+    let a = c .before .before .before .args in
+    let bad = sym (c .before .is-well-formed .ensures) ∙ not-true _ (c .if1 .taken) in
+    is-refused (a .reader) (afterPiece (a .reader) (a .piece .now)) (output.Refused 15) bad
 
 loop-holds : tie.Need-loop-holds Inv-loop μ-loop
 loop-holds c =
@@ -46,24 +49,45 @@ print-page-requires : tie.Need-print-page-requires Inv-loop μ-loop
 print-page-requires c κs = search needs
 
 add-at : tie.Need-add-at Inv-loop μ-loop
-add-at c = omega (arith, fits (afterPiece (c .before .before .before .before .before .before .before .before .before .args .reader) (c .before .before .before .before .before .before .before .before .before .args .piece .now)) (c .before .before .before .before .before .loop .next) (c .before .before .before .before .before .before .before .before .before .args .piece .now) (c .before .before .before .before .before .loop .at) (c .before .before .before .before .before .loop .inv .1) (c .before .before .print-page .result .reader) (c .before .before .print-page .result .taken) (c .before .before .print-page .ensures .0) (c .before .before .print-page .ensures .1) (c .before .before .before .before .before .loop .inv .0))
+add-at c =
+    let inside =
+    let a = c .before .before .before .before .before .before .before .before .before .args in
+    let l = c .before .before .before .before .before .loop in
+    let page = c .before .before .print-page in
+    fits (afterPiece (a .reader) (a .piece .now)) (l .next) (a .piece .now) (l .at) (l .inv .1)
+    (page .result .reader) (page .result .taken) (page .ensures .0) (page .ensures .1) (l .inv .0) in
+    omega (arith, inside)
 
 returns-2 : tie.Need-returns-2 Inv-loop μ-loop
-returns-2 c = is-handed (c .before .before .before .before .before .before .before .before .before .before .before .args .reader) (afterPiece (c .before .before .before .before .before .before .before .before .before .before .before .args .reader) (c .before .before .before .before .before .before .before .before .before .before .before .args .piece .now)) output.Failed _ (sym (c .before .before .before .before .before .before .before .before .before .is-well-formed .ensures) ∙ not-false _ (c .before .before .before .before .before .before .before .before .if1 .left)) refl
+returns-2 c =
+    let tested = c .before .before .before .before .before .before .before .before in
+    let a = tested .before .before .before .args in
+    let good = sym (tested .before .is-well-formed .ensures) ∙ not-false _ (tested .if1 .left) in
+    is-handed (a .reader) (afterPiece (a .reader) (a .piece .now)) output.Failed _ good refl
 
 loop-less : tie.Need-loop-less Inv-loop μ-loop
 loop-less c =
+    let a = c .before .before .before .before .before .before .before .before .before .before .before .args in
+    let l = c .before .before .before .before .before .before .before .loop in
+    let page = c .before .before .before .before .print-page in
     omega (
       arith,
-      fits (afterPiece (c .before .before .before .before .before .before .before .before .before .before .before .args .reader) (c .before .before .before .before .before .before .before .before .before .before .before .args .piece .now)) (c .before .before .before .before .before .before .before .loop .next) (c .before .before .before .before .before .before .before .before .before .before .before .args .piece .now) (c .before .before .before .before .before .before .before .loop .at) (c .before .before .before .before .before .before .before .loop .inv .1) (c .before .before .before .before .print-page .result .reader) (c .before .before .before .before .print-page .result .taken) (c .before .before .before .before .print-page .ensures .0) (c .before .before .before .before .print-page .ensures .1) (c .before .before .before .before .before .before .before .loop .inv .0),
-      some-taken (afterPiece (c .before .before .before .before .before .before .before .before .before .before .before .args .reader) (c .before .before .before .before .before .before .before .before .before .before .before .args .piece .now)) (c .before .before .before .before .before .before .before .loop .next) (c .before .before .before .before .before .before .before .before .before .before .before .args .piece .now) (c .before .before .before .before .before .before .before .loop .at) (c .before .before .before .before .before .before .before .loop .inv .1) (c .before .before .before .before .print-page .result .reader) (c .before .before .before .before .print-page .result .taken) (c .before .before .before .before .print-page .ensures .0) (c .before .before .before .before .print-page .ensures .1) (omega arith),
+      fits (afterPiece (a .reader) (a .piece .now)) (l .next) (a .piece .now) (l .at) (l .inv .1)
+          (page .result .reader) (page .result .taken) (page .ensures .0) (page .ensures .1) (l .inv .0),
+      some-taken (afterPiece (a .reader) (a .piece .now)) (l .next) (a .piece .now) (l .at) (l .inv .1)
+          (page .result .reader) (page .result .taken) (page .ensures .0) (page .ensures .1) (omega arith),
     )
 
 loop-again : tie.Need-loop-again Inv-loop μ-loop
-loop-again c = (
-  fits (afterPiece (c .before .before .before .before .before .before .before .before .before .before .before .args .reader) (c .before .before .before .before .before .before .before .before .before .before .before .args .piece .now)) (c .before .before .before .before .before .before .before .loop .next) (c .before .before .before .before .before .before .before .before .before .before .before .args .piece .now) (c .before .before .before .before .before .before .before .loop .at) (c .before .before .before .before .before .before .before .loop .inv .1) (c .before .before .before .before .print-page .result .reader) (c .before .before .before .before .print-page .result .taken) (c .before .before .before .before .print-page .ensures .0) (c .before .before .before .before .print-page .ensures .1) (c .before .before .before .before .before .before .before .loop .inv .0),
-  turn (afterPiece (c .before .before .before .before .before .before .before .before .before .before .before .args .reader) (c .before .before .before .before .before .before .before .before .before .before .before .args .piece .now)) (c .before .before .before .before .before .before .before .loop .next) (c .before .before .before .before .before .before .before .before .before .before .before .args .piece .now) (c .before .before .before .before .before .before .before .loop .at) (c .before .before .before .before .before .before .before .loop .inv .1) (c .before .before .before .before .print-page .result .reader) (c .before .before .before .before .print-page .result .taken) (c .before .before .before .before .print-page .ensures .0) (c .before .before .before .before .print-page .ensures .1),
-)
+loop-again c =
+    let a = c .before .before .before .before .before .before .before .before .before .before .before .args in
+    let l = c .before .before .before .before .before .before .before .loop in
+    let page = c .before .before .before .before .print-page in (
+      fits (afterPiece (a .reader) (a .piece .now)) (l .next) (a .piece .now) (l .at) (l .inv .1)
+          (page .result .reader) (page .result .taken) (page .ensures .0) (page .ensures .1) (l .inv .0),
+      turn (afterPiece (a .reader) (a .piece .now)) (l .next) (a .piece .now) (l .at) (l .inv .1)
+          (page .result .reader) (page .result .taken) (page .ensures .0) (page .ensures .1),
+    )
 
 returns-3 : tie.Need-returns-3 Inv-loop μ-loop
 returns-3 c =
