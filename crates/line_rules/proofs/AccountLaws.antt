@@ -61,7 +61,8 @@ size-by (event outcome size) start later = refl
 pub heard-sizes : (line : Line) (bytes : List ℕ) → sizesOf (eventsOf line bytes) ≡ lengthsOf line bytes
 heard-sizes line [] = refl
 heard-sizes line (byte ∷ bytes) =
-    size-by (toldBy (line .order) (line .held) byte) (startOf line) (eventsOf (step line byte) bytes) ∙ ap (λ n. eventSize (toldBy (line .order) (line .held) byte) + n) (heard-sizes (step line byte) bytes)
+    size-by (toldBy (line .order) (line .held) byte) (startOf line) (eventsOf (step line byte) bytes)
+    ∙ ap (λ n. eventSize (toldBy (line .order) (line .held) byte) + n) (heard-sizes (step line byte) bytes)
 
 -- from a fresh reader on, after any bytes
 module _ (order : Order) (bytes : List ℕ) where
