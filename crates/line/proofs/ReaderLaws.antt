@@ -26,9 +26,12 @@ pub record Well (reader : Reader) : Type 0 where
 pub well : (reader : Reader) → wellFormed reader ≡ true → Well reader
 unfolding wellFormedAt
 well reader e =
-    let len-rest = both (leb (reader .len) places) (isStarted (take (reader .len) (reader .held)) && (allZero (drop (reader .len) (reader .held)) && eqb (reader .start) (startOf (lineOf reader)))) e in
-    let started-rest = both (isStarted (take (reader .len) (reader .held))) (allZero (drop (reader .len) (reader .held)) && eqb (reader .start) (startOf (lineOf reader))) (len-rest .1) in
-    let zero-start = both (allZero (drop (reader .len) (reader .held))) (eqb (reader .start) (startOf (lineOf reader))) (started-rest .1) in
+    let begun = isStarted (take (reader .len) (reader .held)) in
+    let zeros = allZero (drop (reader .len) (reader .held)) in
+    let placed = eqb (reader .start) (startOf (lineOf reader)) in
+    let len-rest = both (leb (reader .len) places) (begun && (zeros && placed)) e in
+    let started-rest = both begun (zeros && placed) (len-rest .1) in
+    let zero-start = both zeros placed (started-rest .1) in
     record {
       fits = leb-true _ _ (len-rest .0);
       started = started-rest .0;

@@ -39,7 +39,9 @@ part-feed-inside-end c = search needs
 feed-inside-requires : tie.Need-feed-inside-requires
 feed-inside-requires c κs =
     let begun = c .before .begun .ensures in
-    (ap wellFormed begun ∙ reader-well (c .before .before .before .before .before .args .order) (stx ∷ []) (c .before .before .before .moved .result) (c .before .before .moved2 .result) (omega arith) refl, omega (arith, ap (λ reader. reader .len) begun))
+    let order = c .before .before .before .before .before .args .order in
+    let good = reader-well order (stx ∷ []) (c .before .before .before .moved .result) (c .before .before .moved2 .result) (omega arith) refl in
+    (ap wellFormed begun ∙ good, omega (arith, ap (λ reader. reader .len) begun))
 
 add-taken : tie.Need-add-taken
 add-taken c =
@@ -55,11 +57,12 @@ add-taken c =
 
 returns : tie.Need-returns
 returns c =
-    let piece = c .before .before .before .before .before .before .before .before .args .piece .now in
-    let first = c .before .before .before .before .before .before .before .before .args .skipped + 1 in
-    outside-starts (c .before .before .before .before .before .before .before .before .args .order) (c .before .before .before .before .before .before .before .before .args .fed) (c .before .before .before .before .before .before .before .before .args .stray) piece _ _ _ _ (c .before .before .feed-inside .result)
-    (c .before .before .before .before .before .before .before .before .pre .0)
-    (c .before .before .before .before .before .before .before .before .pre .1)
+    let start = c .before .before .before .before .before .before .before .before in
+    let piece = start .args .piece .now in
+    let first = start .args .skipped + 1 in
+    outside-starts (start .args .order) (start .args .fed) (start .args .stray) piece _ _ _ _ (c .before .before .feed-inside .result)
+    (start .pre .0)
+    (start .pre .1)
     (c .before .before .before .before .before .before .moved .ensures)
     (c .before .before .before .before .before .moved2 .ensures)
     (take-all (length piece - first) (drop first piece) (omega (arith, length-drop first piece)))

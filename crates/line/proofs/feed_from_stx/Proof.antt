@@ -59,10 +59,13 @@ returns-2 c = search needs
 feed-whole-requires : tie.Need-feed-whole-requires
 feed-whole-requires c κs =
     let start = c .before .before .before .before .before .before in
+    let piece = start .args .piece .now in
+    let skipped = start .args .skipped in
+    let run = c .before .before .before .roomy-run in
     record {
       begins = start .pre .0;
-      ends = ap (λ n. start .args .skipped + 1 + n) (behind (start .args .piece .now) (start .args .skipped) (c .before .before .before .roomy-run .result) (start .pre .1) (c .before .before .before .roomy-run .ensures));
-      inside = omega (arith, within (start .args .piece .now) (start .args .skipped) (c .before .before .before .roomy-run .result) (start .pre .1) (c .before .before .before .roomy-run .ensures));
+      ends = ap (λ n. skipped + 1 + n) (behind piece skipped (run .result) (start .pre .1) (run .ensures));
+      inside = omega (arith, within piece skipped (run .result) (start .pre .1) (run .ensures));
       ended = c .if2 .left;
     }
 

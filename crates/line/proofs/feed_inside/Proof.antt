@@ -111,11 +111,12 @@ returns-2 c =
     let size : length (reader .held) ≡ places = sym (length-map (reader .held) (λ x. x)) ∙ start .good .0 .1 .1 .0 .1 .0 .1 in
     let good = start .pre .0 in
     let some = start .pre .1 in
+    let held = gathered reader piece size good some in
     let n = c .before .before .before .before .before .before .before .before .gather .ensures .0 in
     let more : added reader piece size good some < length piece = omega (arith, n, added-fits reader piece size good some .1) in
     let is-etx = ap (λ k. getD piece k 0) (sym n) ∙ c .before .before .if2 .taken in
     let bytes = ap₂ (λ k all. take (reader .len + k) all) n (c .before .before .before .before .before .before .before .before .gather .ensures .1) ∙ judged reader piece size good some in
-    stops-with reader piece size good some [] (judgement (reader .order) (gathered reader piece size good some)) (length (gathered reader piece size good some) + 1) (omega arith) (told-etx reader piece size good some more is-etx) _ _ _ _ _
+    stops-with reader piece size good some [] (judgement (reader .order) held) (length held + 1) (omega arith) (told-etx reader piece size good some more is-etx) _ _ _ _ _
     (c .outside .ensures)
     (c .before .before .before .moved2 .ensures)
     n

@@ -30,8 +30,13 @@ outside-requires c κs = search needs
 
 returns-2 : tie.Need-returns-2
 returns-2 c =
-    let start = c .before .before .before .before .before .before .before .before in
-    outside-all (start .args .order) (start .args .fed) (start .args .stray) (start .args .piece .now) _ _ _ _ (c .before .before .before .before .stray-run .ensures) (c .before .before .before .if2 .taken) (c .before .before .moved .ensures) (c .before .moved2 .ensures) (c .outside .ensures)
+    let a = c .before .before .before .before .before .before .before .before .args in
+    outside-all (a .order) (a .fed) (a .stray) (a .piece .now) _ _ _ _
+    (c .before .before .before .before .stray-run .ensures)
+    (c .before .before .before .if2 .taken)
+    (c .before .before .moved .ensures)
+    (c .before .moved2 .ensures)
+    (c .outside .ensures)
 
 feed-from-stx-requires-2 : tie.Need-feed-from-stx-requires-2
 feed-from-stx-requires-2 c κs =

@@ -25,11 +25,12 @@ feed-outside-requires c κs = search needs
 
 returns-2 : tie.Need-returns-2
 returns-2 c =
-    let self = c .before .before .before .before .before .before .args .self in
+    let start = c .before .before .before .before .before .before in
+    let self = start .args .self in
     let good = sym (c .before .before .before .before .is-well-formed .ensures) ∙ not-false _ (c .before .before .before .if1 .left) in
-    let size : length (self .held) ≡ places = sym (length-map (self .held) (λ x. x)) ∙ c .before .before .before .before .before .before .good .0 .1 .1 .0 .1 .0 .1 in
-    let back = outside-back self good size (omega (arith, c .before .before .before .before .before .before .good)) (omega (arith, c .before .before .before .before .before .before .good)) (c .before .if2 .taken) in
-    c .feed-outside .ensures ∙ ap (λ reader. feedReader reader (c .before .before .before .before .before .before .args .piece .now)) back
+    let size : length (self .held) ≡ places = sym (length-map (self .held) (λ x. x)) ∙ start .good .0 .1 .1 .0 .1 .0 .1 in
+    let back = outside-back self good size (omega (arith, start .good)) (omega (arith, start .good)) (c .before .if2 .taken) in
+    c .feed-outside .ensures ∙ ap (λ reader. feedReader reader (start .args .piece .now)) back
 
 feed-inside-requires : tie.Need-feed-inside-requires
 feed-inside-requires c κs = (sym (c .before .before .before .is-well-formed .ensures) ∙ not-false _ (c .before .before .if1 .left), omega arith)

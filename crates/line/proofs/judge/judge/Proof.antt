@@ -59,7 +59,10 @@ part-read-in-start : tie.Need-part-read-in-start Inv-loop μ-loop
 part-read-in-start c = search needs
 
 part-read-in-end : tie.Need-part-read-in-end Inv-loop μ-loop
-part-read-in-end c = omega (arith, length-set (c .before .before .loop .whole) (c .before .before .before .capped .result) etx, c .before .before .before .capped .ensures, c .before .before .loop .inv .1)
+part-read-in-end c =
+    let l = c .before .before .loop in
+    let capped = c .before .before .before .capped in
+    omega (arith, length-set (l .whole) (capped .result) etx, capped .ensures, l .inv .1)
 
 read-in-requires : tie.Need-read-in-requires Inv-loop μ-loop
 read-in-requires c κs = search needs
@@ -75,7 +78,8 @@ returns c =
     let copied = subst (λ n. take n (l .whole) ≡ take n held) all (l .inv .2) in
     c .read-in .ensures
     ∙ ap (readIn _ _)
-    (closed held (l .whole) (start .len) (capped .result) places (capped .result + 1 - 0) etx (omega arith) (omega (arith, capped .ensures)) (omega (arith, capped .ensures)) (omega (arith, capped .ensures, l .inv .1)) copied)
+    (closed held (l .whole) (start .len) (capped .result) places (capped .result + 1 - 0) etx
+    (omega arith) (omega (arith, capped .ensures)) (omega (arith, capped .ensures)) (omega (arith, capped .ensures, l .inv .1)) copied)
 
 pub judge-spec : {M : Type 1} → statement M
 judge-spec =

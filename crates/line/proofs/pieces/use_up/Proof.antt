@@ -35,10 +35,17 @@ feed-requires c κs = search needs
 add-taken : tie.Need-add-taken Inv-loop μ-loop
 add-taken c =
     let l = c .before .before .before .before .before .loop in
-    let fed = c .before .before .feed .result in
     let piece = c .before .before .before .before .before .before .before .args .piece .now in
-    let rest = take (length piece - l .taken) (drop (l .taken) piece) in
-    omega (arith, ap (λ f. f .taken) (c .before .before .feed .ensures), feed-fits (l .next) rest, length-take (length piece - l .taken) (drop (l .taken) piece), length-drop (l .taken) piece, l .inv .1)
+    let left = drop (l .taken) piece in
+    let rest = take (length piece - l .taken) left in
+    omega (
+      arith,
+      ap (λ f. f .taken) (c .before .before .feed .ensures),
+      feed-fits (l .next) rest,
+      length-take (length piece - l .taken) left,
+      length-drop (l .taken) piece,
+      l .inv .1,
+    )
 
 enum-told : tie.Need-enum-told Inv-loop μ-loop
 enum-told c = c .match .keys1
@@ -48,7 +55,9 @@ returns c =
     let l = c .before .before .before .before .before .before .before .loop in
     let fed = c .before .before .before .before .feed .result in
     let piece = c .before .before .before .before .before .before .before .before .before .args .piece .now in
-    ends-with (passedFor (passing room (c .before .before .before .before .before .before .before .before .before .args .reader) piece)) (l .slots) (l .count) (l .taken) (l .next) piece fed (omega (arith, c .before .before .before .before .before .before .loop-test .taken)) (l .inv .4) (l .inv .5) (c .before .before .before .before .feed .ensures)
+    let passed = passedFor (passing room (c .before .before .before .before .before .before .before .before .before .args .reader) piece) in
+    let free : l .count < room = omega (arith, c .before .before .before .before .before .before .loop-test .taken) in
+    ends-with passed (l .slots) (l .count) (l .taken) (l .next) piece fed free (l .inv .4) (l .inv .5) (c .before .before .before .before .feed .ensures)
     0 (λ on. ap (λ h. passOn h fed on) (c .enum-told .given .1))
 
 enum-known-heard : tie.Need-enum-known-heard Inv-loop μ-loop
@@ -59,7 +68,9 @@ returns-2 c =
     let l = c .before .before .before .before .before .before .before .before .loop in
     let fed = c .before .before .before .before .before .feed .result in
     let piece = c .before .before .before .before .before .before .before .before .before .before .args .piece .now in
-    ends-with (passedFor (passing room (c .before .before .before .before .before .before .before .before .before .before .args .reader) piece)) (l .slots) (l .count) (l .taken) (l .next) piece fed (omega (arith, c .before .before .before .before .before .before .before .loop-test .taken)) (l .inv .4) (l .inv .5) (c .before .before .before .before .before .feed .ensures)
+    let passed = passedFor (passing room (c .before .before .before .before .before .before .before .before .before .before .args .reader) piece) in
+    let free : l .count < room = omega (arith, c .before .before .before .before .before .before .before .loop-test .taken) in
+    ends-with passed (l .slots) (l .count) (l .taken) (l .next) piece fed free (l .inv .4) (l .inv .5) (c .before .before .before .before .before .feed .ensures)
     _ (λ on. ap (λ h. passOn h fed on) (c .before .heard .given .1))
 
 enum-told-2 : tie.Need-enum-told-2 Inv-loop μ-loop
@@ -82,14 +93,24 @@ loop-again c =
     let l = c .before .before .before .before .before .before .before .loop in
     let fed = c .before .before .before .before .feed .result in
     let piece = c .before .before .before .before .before .before .before .before .before .args .piece .now in
-    let rest = take (length piece - l .taken) (drop (l .taken) piece) in
+    let passed = passedFor (passing room (c .before .before .before .before .before .before .before .before .before .args .reader) piece) in
+    let left = drop (l .taken) piece in
+    let rest = take (length piece - l .taken) left in
     let free : l .count < room = omega (arith, c .before .before .before .before .before .before .loop-test .taken) in (
       refl,
-      omega (arith, ap (λ f. f .taken) (c .before .before .before .before .feed .ensures), feed-fits (l .next) rest, length-take (length piece - l .taken) (drop (l .taken) piece), length-drop (l .taken) piece, l .inv .1),
+      omega (
+        arith,
+        ap (λ f. f .taken) (c .before .before .before .before .feed .ensures),
+        feed-fits (l .next) rest,
+        length-take (length piece - l .taken) left,
+        length-drop (l .taken) piece,
+        l .inv .1,
+      ),
       omega (arith, free),
       length-set (l .slots) (l .count) (slotOf (fed .heard)) ∙ l .inv .3,
       still-empty (l .slots) (l .count) (slotOf (fed .heard)) free (l .inv .4),
-      goes-on (passedFor (passing room (c .before .before .before .before .before .before .before .before .before .args .reader) piece)) (l .slots) (l .count) (l .taken) (l .next) piece fed free (l .inv .4) (l .inv .5) (c .before .before .before .before .feed .ensures) (c .enum-told2 .given .1) (l .inv .3),
+      goes-on passed (l .slots) (l .count) (l .taken) (l .next) piece fed free (l .inv .4) (l .inv .5)
+          (c .before .before .before .before .feed .ensures) (c .enum-told2 .given .1) (l .inv .3),
     )
 
 returns-3 : tie.Need-returns-3 Inv-loop μ-loop

@@ -36,10 +36,14 @@ stray-bytes-requires c κs = search needs
 add-result : tie.Need-add-result
 add-result c =
     let piece = c .before .before .before .before .args .piece .now in
-    omega (arith, joined piece (c .before .before .stray-blocks .result) (c .before .before .stray-blocks .ensures) (c .stray-bytes .result) (c .stray-bytes .ensures), stray-ends piece .0)
+    let blocks = c .before .before .stray-blocks in
+    let bytes = c .stray-bytes in
+    omega (arith, joined piece (blocks .result) (blocks .ensures) (bytes .result) (bytes .ensures), stray-ends piece .0)
 
 returns : tie.Need-returns
-returns c = joined (c .before .before .before .before .args .piece .now) (c .before .before .stray-blocks .result) (c .before .before .stray-blocks .ensures) (c .stray-bytes .result) (c .stray-bytes .ensures)
+returns c =
+    let blocks = c .before .before .stray-blocks in
+    joined (c .before .before .before .before .args .piece .now) (blocks .result) (blocks .ensures) (c .stray-bytes .result) (c .stray-bytes .ensures)
 
 pub stray-run-spec : {M : Type 1} → statement M
 stray-run-spec =
