@@ -29,13 +29,24 @@ is-same-requires-3 : tie.Need-is-same-requires-3
 is-same-requires-3 c κs = search needs
 
 returns-3 : tie.Need-returns-3
-returns-3 c = rw (sym (c .before .before .before .before .before .before .before .is-same .ensures) ∙ c .before .before .before .before .before .before .if1 .left, sym (c .before .before .before .before .is-same2 .ensures) ∙ c .before .before .before .if2 .left, sym (c .before .is-same3 .ensures) ∙ c .if3 .taken)
+returns-3 c =
+    rw (
+      sym (c .before .before .before .before .before .before .before .is-same .ensures) ∙ c .before .before .before .before .before .before .if1 .left,
+      sym (c .before .before .before .before .is-same2 .ensures) ∙ c .before .before .before .if2 .left,
+      sym (c .before .is-same3 .ensures) ∙ c .if3 .taken,
+    )
 
 other-word-requires : tie.Need-other-word-requires
 other-word-requires c κs = search needs
 
 returns-4 : tie.Need-returns-4
-returns-4 c = rw (sym (c .before .before .before .before .before .before .before .before .is-same .ensures) ∙ c .before .before .before .before .before .before .before .if1 .left, sym (c .before .before .before .before .before .is-same2 .ensures) ∙ c .before .before .before .before .if2 .left, sym (c .before .before .is-same3 .ensures) ∙ c .before .if3 .left) (c .other-word .ensures)
+returns-4 c =
+    rw (
+      sym (c .before .before .before .before .before .before .before .before .is-same .ensures) ∙ c .before .before .before .before .before .before .before .if1 .left,
+      sym (c .before .before .before .before .before .is-same2 .ensures) ∙ c .before .before .before .before .if2 .left,
+      sym (c .before .before .is-same3 .ensures) ∙ c .before .if3 .left,
+    )
+    (c .other-word .ensures)
 
 pub listing-word-spec : {M : Type 1} → statement M
 listing-word-spec =

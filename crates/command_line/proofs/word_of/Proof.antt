@@ -33,14 +33,25 @@ is-same-requires-3 c κs = search needs
 
 returns-3 : tie.Need-returns-3
 unfolding wordOf
-returns-3 c = rw (sym (c .before .before .before .before .before .before .before .is-same .ensures) ∙ c .before .before .before .before .before .before .if1 .left, sym (c .before .before .before .before .is-same2 .ensures) ∙ c .before .before .before .if2 .left, sym (c .before .is-same3 .ensures) ∙ c .if3 .taken)
+returns-3 c =
+    rw (
+      sym (c .before .before .before .before .before .before .before .is-same .ensures) ∙ c .before .before .before .before .before .before .if1 .left,
+      sym (c .before .before .before .before .is-same2 .ensures) ∙ c .before .before .before .if2 .left,
+      sym (c .before .is-same3 .ensures) ∙ c .if3 .taken,
+    )
 
 listing-word-requires : tie.Need-listing-word-requires
 listing-word-requires c κs = search needs
 
 returns-4 : tie.Need-returns-4
 unfolding wordOf
-returns-4 c = rw (sym (c .before .before .before .before .before .before .before .before .is-same .ensures) ∙ c .before .before .before .before .before .before .before .if1 .left, sym (c .before .before .before .before .before .is-same2 .ensures) ∙ c .before .before .before .before .if2 .left, sym (c .before .before .is-same3 .ensures) ∙ c .before .if3 .left) (c .listing-word .ensures)
+returns-4 c =
+    rw (
+      sym (c .before .before .before .before .before .before .before .before .is-same .ensures) ∙ c .before .before .before .before .before .before .before .if1 .left,
+      sym (c .before .before .before .before .before .is-same2 .ensures) ∙ c .before .before .before .before .if2 .left,
+      sym (c .before .before .is-same3 .ensures) ∙ c .before .if3 .left,
+    )
+    (c .listing-word .ensures)
 
 pub word-of-spec : {M : Type 1} → statement M
 word-of-spec =
