@@ -11,9 +11,13 @@ use Rattle.listing_rules.specs.AsPrinted.{TheListingIsAsPrinted}
 use Rattle.listing_rules.specs.LogAsPrinted.{TheLogsListingsAreAsPrinted}
 
 pub listing-as-printed : TheListingIsAsPrinted
-unfolding unless isLeap monthLength monthInRange dateInRange dayExists monthStart dayOf timeInRange timeAllowed timeAloneAllowed timeAloneRefusal plainUtc tableCanSay statusAllowed weekdayAllowed weekdayAgrees datedRefusal decimalWithin decimal headerRow statusColumn datedColumns timeOnlyColumns recordRow refusedRow strayRow
+unfolding unless isLeap monthLength monthInRange dateInRange dayExists monthStart dayOf timeInRange timeAllowed timeAloneAllowed timeAloneRefusal
+    plainUtc tableCanSay statusAllowed weekdayAllowed weekdayAgrees datedRefusal decimalWithin decimal headerRow statusColumn datedColumns
+    timeOnlyColumns recordRow refusedRow strayRow
 listing-as-printed = (refl, refl, refl)
 
 pub log-as-printed : TheLogsListingsAreAsPrinted
-unfolding unless isLeap monthLength monthInRange dateInRange dayExists monthStart dayOf timeInRange timeAllowed timeAloneAllowed timeAloneRefusal plainUtc tableCanSay statusAllowed weekdayAllowed weekdayAgrees datedRefusal decimalWithin decimal statusColumn datedColumns timeOnlyColumns refusedRow logHeader slotRow verifyHeader goodRow badRow tailRow badCount
+unfolding unless isLeap monthLength monthInRange dateInRange dayExists monthStart dayOf timeInRange timeAllowed timeAloneAllowed timeAloneRefusal
+    plainUtc tableCanSay statusAllowed weekdayAllowed weekdayAgrees datedRefusal decimalWithin decimal statusColumn datedColumns timeOnlyColumns
+    refusedRow logHeader slotRow verifyHeader goodRow badRow tailRow badCount
 log-as-printed = (refl, refl, refl)

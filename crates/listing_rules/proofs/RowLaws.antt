@@ -24,7 +24,8 @@ use Rattle.record_rules.specs.declared.Record.the-variants.{Dated, TimeOnly}
 use Rattle.record_rules.specs.Rule.{refusalOf}
 use Rattle.ascii.specs.Ascii.{ascii}
 use Rattle.listing_rules.specs.Decimals.{decimal}
-use Rattle.listing_rules.specs.Listing.{headerRow, datedKind, timeKind, receptionWord, seasonWord, statusColumn, datedColumns, timeOnlyColumns, columns, recordRow, refusedRow, strayRow, longestRow}
+use Rattle.listing_rules.specs.Listing.{headerRow, datedKind, timeKind, receptionWord, seasonWord, statusColumn, datedColumns}
+use Rattle.listing_rules.specs.Listing.{timeOnlyColumns, columns, recordRow, refusedRow, strayRow, longestRow}
 use Rattle.listing_rules.proofs.DecimalLaws.{few-digits}
 
 dated-kind-length : (layout : DatedLayout) → length (datedKind layout) ≡ 4
