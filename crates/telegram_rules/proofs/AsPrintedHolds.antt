@@ -14,5 +14,7 @@ use Rattle.telegram_rules.specs.Writing.{bodyBytes, telegramFor}
 use Rattle.telegram_rules.specs.AsPrinted.{WritesAreAsPrinted}
 
 pub as-printed : WritesAreAsPrinted
-unfolding unless within codeCharacter render isLeap monthLength monthInRange dateInRange dayExists monthStart dayOf timeInRange timeAfter isLastSecond sixtyBehind59 takesSixty upTo59 timeAllowed timeAloneAllowed timeAloneRefusal plainUtc tableCanSay statusAllowed weekdayAllowed weekdayAgrees datedRefusal nextSecondOf placesOf statusOut6021 bodyBytes telegramFor
+unfolding unless within codeCharacter render isLeap monthLength monthInRange dateInRange dayExists monthStart dayOf timeInRange timeAfter isLastSecond
+    sixtyBehind59 takesSixty upTo59 timeAllowed timeAloneAllowed timeAloneRefusal plainUtc tableCanSay statusAllowed weekdayAllowed weekdayAgrees
+    datedRefusal nextSecondOf placesOf statusOut6021 bodyBytes telegramFor
 as-printed = record { settings = refl; records = refl; rooms = refl; noRoom = refl; shortRoom = refl; room = refl }

@@ -39,8 +39,11 @@ module _ (rec : Record) (none : refusalOf rec ≡ 0) where
       × (every decimalHolds (placesOf (ownLayout rec)) (bodyBytes rec) ≡ true)
       × (every codeHolds (placesOf (ownLayout rec)) (bodyBytes rec) ≡ true)
   unfolding bodyBytes
-  body-fits =
-      (fixed-rendered (placesOf (ownLayout rec)) (digitsOut rec), decimals-rendered (placesOf (ownLayout rec)) (digitsOut rec) (digits-held rec none .each), codes-rendered (placesOf (ownLayout rec)) (digitsOut rec))
+  body-fits = (
+    fixed-rendered (placesOf (ownLayout rec)) (digitsOut rec),
+    decimals-rendered (placesOf (ownLayout rec)) (digitsOut rec) (digits-held rec none .each),
+    codes-rendered (placesOf (ownLayout rec)) (digitsOut rec),
+  )
 
   body-good : bodyRefusal (ownLayout rec) (bodyBytes rec) ≡ 0
   unfolding bodyRefusal

@@ -13,7 +13,9 @@ use Rattle.telegram_rules.specs.Writing.{bodyBytes, telegramFor}
 use Rattle.telegram_rules.specs.OrderAsPrinted.{OrdersAreAsPrinted}
 
 pub orders-as-printed : OrdersAreAsPrinted
-unfolding unless within isDecimal isCapital codeValue codeCharacter render isLeap monthLength monthInRange dateInRange dayExists monthStart dayOf timeInRange timeAllowed timeAloneAllowed timeAloneRefusal plainUtc tableCanSay statusAllowed weekdayAllowed weekdayAgrees datedRefusal placesOf layoutOf statusIn6021 statusIn5500 statusOut6021 statusOut5500 carried bodyRefusal readIn bodyBytes telegramFor
+unfolding unless within isDecimal isCapital codeValue codeCharacter render isLeap monthLength monthInRange dateInRange dayExists monthStart dayOf
+    timeInRange timeAllowed timeAloneAllowed timeAloneRefusal plainUtc tableCanSay statusAllowed weekdayAllowed weekdayAgrees datedRefusal placesOf
+    layoutOf statusIn6021 statusIn5500 statusOut6021 statusOut5500 carried bodyRefusal readIn bodyBytes telegramFor
 orders-as-printed =
     record {
       writtenPrinted = (refl, refl);
