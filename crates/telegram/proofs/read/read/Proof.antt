@@ -28,14 +28,16 @@ read-as-requires c κs = search needs
 
 returns-2 : tie.Need-returns-2
 returns-2 c =
-    no-layout false (c .before .before .before .before .before .before .args .bytes .now) _ (sym (c .before .before .before .layout-of .ensures) ∙ ap layoutAnswer (c .before .number .given .1))
-    ∙ ap (λ control. readOf control (c .before .before .before .before .before .before .args .bytes .now)) (sym (c .before .before .before .before .if1 .left))
+    let bytes = c .before .before .before .before .before .before .args .bytes .now in
+    no-layout false bytes _ (sym (c .before .before .before .layout-of .ensures) ∙ ap layoutAnswer (c .before .number .given .1))
+    ∙ ap (λ control. readOf control bytes) (sym (c .before .before .before .before .if1 .left))
 
 returns-3 : tie.Need-returns-3
 returns-3 c =
+    let bytes = c .before .before .before .before .before .before .before .args .bytes .now in
     c .read-as .ensures
-    ∙ by-body false (c .before .before .before .before .before .before .before .args .bytes .now) _ (sym (c .before .before .before .before .layout-of .ensures) ∙ ap layoutAnswer (c .before .before .layout .given .1)) refl
-    ∙ ap (λ control. readOf control (c .before .before .before .before .before .before .before .args .bytes .now)) (sym (c .before .before .before .before .before .if1 .left))
+    ∙ by-body false bytes _ (sym (c .before .before .before .before .layout-of .ensures) ∙ ap layoutAnswer (c .before .before .layout .given .1)) refl
+    ∙ ap (λ control. readOf control bytes) (sym (c .before .before .before .before .before .if1 .left))
 
 pub read-spec : {M : Type 1} → statement M
 read-spec =

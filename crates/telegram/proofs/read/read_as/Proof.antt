@@ -28,7 +28,9 @@ scan-requires : tie.Need-scan-requires
 scan-requires c κs = search needs
 
 returns : tie.Need-returns
-returns c = ends-in-row _ _ _ (seen _ _ _ _ _ (c .before .before .before .before .span-of .ensures) (c .before .before .before .before .before .rows .ensures) (c .before .scan .ensures)) (c .if1 .taken)
+returns c =
+    let found = seen _ _ _ _ _ (c .before .before .before .before .span-of .ensures) (c .before .before .before .before .before .rows .ensures) (c .before .scan .ensures) in
+    ends-in-row _ _ _ found (c .if1 .taken)
 
 record-in-requires : tie.Need-record-in-requires
 record-in-requires c κs = search needs
@@ -38,13 +40,17 @@ refusal-requires c κs = search needs
 
 returns-2 : tie.Need-returns-2
 returns-2 c =
-    let found = seen _ _ _ _ _ (c .before .before .before .before .before .before .before .before .span-of .ensures) (c .before .before .before .before .before .before .before .before .before .rows .ensures) (c .before .before .before .before .before .scan .ensures) in
+    let span = c .before .before .before .before .before .before .before .before .span-of .ensures in
+    let rows = c .before .before .before .before .before .before .before .before .before .rows .ensures in
+    let found = seen _ _ _ _ _ span rows (c .before .before .before .before .before .scan .ensures) in
     let same = c .before .refusal .ensures ∙ ap refusalOf (c .before .before .record-in .ensures ∙ sym (carried-is _ _ _ found)) in
     ends-refused _ _ _ found (c .before .before .before .before .if1 .left) _ same (c .if2 .taken)
 
 returns-3 : tie.Need-returns-3
 returns-3 c =
-    let found = seen _ _ _ _ _ (c .before .before .before .before .before .before .before .before .span-of .ensures) (c .before .before .before .before .before .before .before .before .before .rows .ensures) (c .before .before .before .before .before .scan .ensures) in
+    let span = c .before .before .before .before .before .before .before .before .span-of .ensures in
+    let rows = c .before .before .before .before .before .before .before .before .before .rows .ensures in
+    let found = seen _ _ _ _ _ span rows (c .before .before .before .before .before .scan .ensures) in
     let carried = c .before .before .record-in .ensures ∙ sym (carried-is _ _ _ found) in
     let none = ap refusalOf (sym carried) ∙ sym (c .before .refusal .ensures) ∙ c .if2 .left in
     ap done carried ∙ ends-good _ _ _ found (c .before .before .before .before .if1 .left) none

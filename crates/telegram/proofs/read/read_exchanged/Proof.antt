@@ -66,8 +66,9 @@ returns-2 c =
     let l = c .before .before .before .before .before .before .before .loop in
     let all : l .at ≡ length (start .bytes .now) = omega (arith, l .inv .0, c .before .before .before .before .before .before .loop-test) in
     let copied = subst (λ n. take n (l .copy) ≡ take n (start .bytes .now)) all (l .inv .2) in
+    let exchanged = c .before .before .before .exchange .ensures ∙ ap (λ at. exchangeAt at (l .copy)) (c .before .before .before .before .place-in .ensures) in
     c .read-first .ensures
-    ∙ ap (λ bytes. readOf (start .control) (take (length (start .bytes .now)) bytes)) (c .before .before .before .exchange .ensures ∙ ap (λ at. exchangeAt at (l .copy)) (c .before .before .before .before .place-in .ensures))
+    ∙ ap (λ bytes. readOf (start .control) (take (length (start .bytes .now)) bytes)) exchanged
     ∙ copy-read (start .control) (start .bytes .now) (l .copy) copied
 
 pub read-exchanged-spec : {M : Type 1} → statement M

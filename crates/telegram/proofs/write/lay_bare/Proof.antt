@@ -49,9 +49,12 @@ returns-2 : tie.Need-returns-2
 returns-2 c =
     let rec = c .before .before .before .before .before .before .before .before .before .before .before .before .args .rec in
     let out = c .before .before .before .before .before .before .before .before .before .before .before .before .args .out .now in
-    let n = span-size rec _ (c .before .before .before .before .before .before .before .before .before .before .span-of .ensures) in
+    let span = c .before .before .before .before .before .before .before .before .before .before .span-of .ensures in
+    let n = span-size rec _ span in
     let fits : length (bodyBytes rec) ≤ length out = omega (arith, c .before .before .before .before .before .before .before .before .before .if1 .left, n) in
-    let made = body-laid rec _ (c .before .before .before .before .before .before .before .before .before .before .span-of .ensures) _ _ _ out (c .before .before .before .before .before .before .before .rows .ensures) (c .before .before .before .before .before .before .before .before .digits-out .ensures) (c .before .before .render .ensures) in
+    let rows = c .before .before .before .before .before .before .before .rows .ensures in
+    let digits = c .before .before .before .before .before .before .before .before .digits-out .ensures in
+    let made = body-laid rec _ span _ _ _ out rows digits (c .before .before .render .ensures) in
     laid-fits (telegramOf false rec) out fits ∙ ap₂ (λ k l. (done k, l)) (sym n) (sym (made ∙ over-room _ out fits))
 
 pub lay-bare-spec : {M : Type 1} → statement M

@@ -38,10 +38,11 @@ same-length-2 c = search needs
 returns-2 : tie.Need-returns-2
 returns-2 c =
     let start = c .before .before .before .before .before .before .before .before .before .before .before .before .before .args in
-    let last = c .before .before .before .before .before .before .before .before .before .before .lay .last .1 .1 .0 in
-    laid-then (start .control) (start .rec) (start .out .now) _ last
-    (c .before .before .before .before .before .before .before .before .before .before .lay .ensures ∙ ap (λ answer. (writeAnswer answer, last)) (c .before .before .before .before .before .before .length .given .1))
-    ∙ ap (λ bytes. (done (c .before .before .before .before .before .before .length .given .0 .0), bytes))
+    let lay = c .before .before .before .before .before .before .before .before .before .before .lay in
+    let last = lay .last .1 .1 .0 in
+    let size = c .before .before .before .before .before .before .length .given in
+    laid-then (start .control) (start .rec) (start .out .now) _ last (lay .ensures ∙ ap (λ answer. (writeAnswer answer, last)) (size .1))
+    ∙ ap (λ bytes. (done (size .0 .0), bytes))
     (sym (c .before .before .exchange .ensures ∙ ap (λ at. exchangeAt at last) (c .before .before .before .place-in .ensures)))
 
 pub lay-exchanged-spec : {M : Type 1} → statement M

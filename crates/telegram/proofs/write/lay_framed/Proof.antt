@@ -68,9 +68,12 @@ slice-write-out-2 c =
     let rec = c .before .before .before .before .before .before .before .before .before .before .before .before .args .rec in
     let out = c .before .before .before .before .before .before .before .before .before .before .before .before .args .out .now in
     let last = c .before .before .render .last .1 .1 .0 in
-    let n = span-size rec _ (c .before .before .before .before .before .before .before .before .before .before .span-of .ensures) in
+    let span = c .before .before .before .before .before .before .before .before .before .before .span-of .ensures in
+    let n = span-size rec _ span in
     let fits : length (bodyBytes rec) + 2 ≤ length out = omega (arith, c .before .before .before .before .before .before .before .before .before .if1 .left, n) in
-    let made = body-laid rec _ (c .before .before .before .before .before .before .before .before .before .before .span-of .ensures) _ _ last _ (c .before .before .before .before .before .before .before .rows .ensures) (c .before .before .before .before .before .before .before .before .digits-out .ensures) (c .before .before .render .ensures) in
+    let rows = c .before .before .before .before .before .before .before .rows .ensures in
+    let digits = c .before .before .before .before .before .before .before .before .digits-out .ensures in
+    let made = body-laid rec _ span _ _ last _ rows digits (c .before .before .render .ensures) in
     let whole = length-framing (bodyBytes rec) out last fits made in
     omega (arith, whole, n, fits)
 
@@ -82,10 +85,13 @@ same-length c =
     let rec = c .before .before .before .before .before .before .before .before .before .before .before .before .args .rec in
     let out = c .before .before .before .before .before .before .before .before .before .before .before .before .args .out .now in
     let last = c .before .before .render .last .1 .1 .0 in
-    let n = span-size rec _ (c .before .before .before .before .before .before .before .before .before .before .span-of .ensures) in
+    let span = c .before .before .before .before .before .before .before .before .before .before .span-of in
+    let n = span-size rec _ (span .ensures) in
     let fits : length (bodyBytes rec) + 2 ≤ length out = omega (arith, c .before .before .before .before .before .before .before .before .before .if1 .left, n) in
-    let made = body-laid rec _ (c .before .before .before .before .before .before .before .before .before .before .span-of .ensures) _ _ last _ (c .before .before .before .before .before .before .before .rows .ensures) (c .before .before .before .before .before .before .before .before .digits-out .ensures) (c .before .before .render .ensures) in
-    length-set {A = ℕ} (putMid 1 (length (set out 0 2) - 1) (set out 0 2) last) (c .before .before .before .before .before .before .before .before .before .before .span-of .result .end - c .before .before .before .before .before .before .before .before .before .before .span-of .result .start + 1) 3
+    let rows = c .before .before .before .before .before .before .before .rows .ensures in
+    let digits = c .before .before .before .before .before .before .before .before .digits-out .ensures in
+    let made = body-laid rec _ (span .ensures) _ _ last _ rows digits (c .before .before .render .ensures) in
+    length-set {A = ℕ} (putMid 1 (length (set out 0 2) - 1) (set out 0 2) last) (span .result .end - span .result .start + 1) 3
     ∙ length-framing (bodyBytes rec) out last fits made
 
 returns-2 : tie.Need-returns-2
@@ -93,9 +99,12 @@ returns-2 c =
     let rec = c .before .before .before .before .before .before .before .before .before .before .before .before .args .rec in
     let out = c .before .before .before .before .before .before .before .before .before .before .before .before .args .out .now in
     let last = c .before .before .render .last .1 .1 .0 in
-    let n = span-size rec _ (c .before .before .before .before .before .before .before .before .before .before .span-of .ensures) in
+    let span = c .before .before .before .before .before .before .before .before .before .before .span-of .ensures in
+    let n = span-size rec _ span in
     let fits : length (bodyBytes rec) + 2 ≤ length out = omega (arith, c .before .before .before .before .before .before .before .before .before .if1 .left, n) in
-    let made = body-laid rec _ (c .before .before .before .before .before .before .before .before .before .before .span-of .ensures) _ _ last _ (c .before .before .before .before .before .before .before .rows .ensures) (c .before .before .before .before .before .before .before .before .digits-out .ensures) (c .before .before .render .ensures) in
+    let rows = c .before .before .before .before .before .before .before .rows .ensures in
+    let digits = c .before .before .before .before .before .before .before .before .digits-out .ensures in
+    let made = body-laid rec _ span _ _ last _ rows digits (c .before .before .render .ensures) in
     let size = ap (λ k. k + 2) n ∙ sym (length-framed rec) in
     let back = putMid 1 (length (set out 0 2) - 1) (set out 0 2) last in
     let laid-in = ap (λ k. set back (k + 1) 3) n ∙ framed-laid (bodyBytes rec) out last fits made ∙ ap (λ k. telegramOf true rec ++ drop k out) (sym (length-framed rec)) in

@@ -48,8 +48,11 @@ same-length c = search needs
 returns-2 : tie.Need-returns-2
 returns-2 c =
     let start = c .before .before .before .before .before .before .before .before .before .before .before .before .before .args in
-    ap (λ o. laid o (start .out .now))
-    (telegram-made (start .choice) (start .rec) _ _ _ (sym (c .before .before .before .before .before .before .before .before .before .before .before .record-to-write .ensures) ∙ ap recordAnswer (c .before .before .before .before .before .before .before .before .before .good2 .given .1)) (sym (c .before .before .before .before .before .before .order-of .ensures) ∙ c .before .before .before .before .enum-told .given .1) (sym (c .before .before .before .before .before .before .before .control-of .ensures)))
+    let to-write = c .before .before .before .before .before .before .before .before .before .before .before .record-to-write .ensures in
+    let good = sym to-write ∙ ap recordAnswer (c .before .before .before .before .before .before .before .before .before .good2 .given .1) in
+    let order = sym (c .before .before .before .before .before .before .order-of .ensures) ∙ c .before .before .before .before .enum-told .given .1 in
+    let control = sym (c .before .before .before .before .before .before .before .control-of .ensures) in
+    ap (λ o. laid o (start .out .now)) (telegram-made (start .choice) (start .rec) _ _ _ good order control)
     ∙ c .before .before .lay .ensures
 
 same-length-2 : tie.Need-same-length-2
@@ -58,8 +61,11 @@ same-length-2 c = search needs
 returns-3 : tie.Need-returns-3
 returns-3 c =
     let start = c .before .before .before .before .before .before .before .before .before .before .before .before .before .args in
-    ap (λ o. laid o (start .out .now))
-    (telegram-made (start .choice) (start .rec) _ _ _ (sym (c .before .before .before .before .before .before .before .before .before .before .before .record-to-write .ensures) ∙ ap recordAnswer (c .before .before .before .before .before .before .before .before .before .good2 .given .1)) (sym (c .before .before .before .before .before .before .order-of .ensures) ∙ c .before .before .before .before .enum-told2 .given .1) (sym (c .before .before .before .before .before .before .before .control-of .ensures)))
+    let to-write = c .before .before .before .before .before .before .before .before .before .before .before .record-to-write .ensures in
+    let good = sym to-write ∙ ap recordAnswer (c .before .before .before .before .before .before .before .before .before .good2 .given .1) in
+    let order = sym (c .before .before .before .before .before .before .order-of .ensures) ∙ c .before .before .before .before .enum-told2 .given .1 in
+    let control = sym (c .before .before .before .before .before .before .before .control-of .ensures) in
+    ap (λ o. laid o (start .out .now)) (telegram-made (start .choice) (start .rec) _ _ _ good order control)
     ∙ c .before .before .lay-exchanged .ensures
 
 pub write-spec : {M : Type 1} → statement M

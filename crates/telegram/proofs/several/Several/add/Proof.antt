@@ -43,11 +43,15 @@ wrapping-add-usize-requires c κs = search needs
 
 add-t17 : tie.Need-add-t17
 add-t17 c =
-    let self = c .before .before .before .before .before .before .before .before .before .before .before .before .args .self in
-    let out = c .before .before .before .before .before .before .before .before .before .before .before .before .args .out .now in
-    let lent = tail-lent (self .used) out _ (c .before .before .before .before .before .before .before .before .smaller .ensures) in
-    let made = stands (telegramFor (c .before .before .before .before .before .before .before .before .before .before .before .before .args .choice) (c .before .before .before .before .before .before .before .before .before .before .before .before .args .rec)) _ _ _ (c .before .before .before .before .before .before .write .ensures ∙ ap (λ a. (writeAnswer a, c .before .before .before .before .before .before .write .last .1 .1 .0)) (c .before .before .n .given .1)) in
-    omega (arith, within-done _ _ (made .bytes) (made .is-laid) .1, made .size, ap length lent, tail-length (self .used) out)
+    let a = c .before .before .before .before .before .before .before .before .before .before .before .before .args in
+    let used = a .self .used in
+    let out = a .out .now in
+    let last = c .before .before .before .before .before .before .write .last .1 .1 .0 in
+    let lent = tail-lent used out _ (c .before .before .before .before .before .before .before .before .smaller .ensures) in
+    let made =
+    stands (telegramFor (a .choice) (a .rec)) _ _ _
+    (c .before .before .before .before .before .before .write .ensures ∙ ap (λ answer. (writeAnswer answer, last)) (c .before .before .n .given .1)) in
+    omega (arith, within-done _ _ (made .bytes) (made .is-laid) .1, made .size, ap length lent, tail-length used out)
 
 enum-known-number : tie.Need-enum-known-number
 enum-known-number c = search needs
@@ -57,16 +61,20 @@ same-length c = search needs
 
 returns-2 : tie.Need-returns-2
 returns-2 c =
-    one-stands (c .before .before .before .before .before .before .before .before .before .before .before .before .args .choice) (c .before .before .before .before .before .before .before .before .before .before .before .before .args .self) (c .before .before .before .before .before .before .before .before .before .before .before .before .args .out .now) (c .before .before .before .before .before .before .before .before .before .enum-told2 .given .1) (c .before .before .before .before .before .before .before .before .before .before .before .before .args .rec) _ _ _
-    (c .before .before .before .before .before .before .before .before .smaller .ensures) (c .before .before .before .before .before .before .write .ensures) _ _ (c .wrapping-add-usize .ensures) (ap writeAnswer (c .before .before .n .given .1))
+    let a = c .before .before .before .before .before .before .before .before .before .before .before .before .args in
+    one-stands (a .choice) (a .self) (a .out .now) (c .before .before .before .before .before .before .before .before .before .enum-told2 .given .1) (a .rec) _ _ _
+    (c .before .before .before .before .before .before .before .before .smaller .ensures) (c .before .before .before .before .before .before .write .ensures) _ _
+    (c .wrapping-add-usize .ensures) (ap writeAnswer (c .before .before .n .given .1))
 
 same-length-2 : tie.Need-same-length-2
 same-length-2 c = search needs
 
 returns-3 : tie.Need-returns-3
 returns-3 c =
-    one-stops (c .before .before .before .before .before .before .before .before .before .before .before .args .choice) (c .before .before .before .before .before .before .before .before .before .before .before .args .self) (c .before .before .before .before .before .before .before .before .before .before .before .args .out .now) (c .before .before .before .before .before .before .before .before .enum-told2 .given .1) (c .before .before .before .before .before .before .before .before .before .before .before .args .rec) _ _ _
-    (c .before .before .before .before .before .before .before .smaller .ensures) (c .before .before .before .before .before .write .ensures) _ (omega arith) (ap writeAnswer (c .before .number .given .1))
+    let a = c .before .before .before .before .before .before .before .before .before .before .before .args in
+    one-stops (a .choice) (a .self) (a .out .now) (c .before .before .before .before .before .before .before .before .enum-told2 .given .1) (a .rec) _ _ _
+    (c .before .before .before .before .before .before .before .smaller .ensures)
+    (c .before .before .before .before .before .write .ensures) _ (omega arith) (ap writeAnswer (c .before .number .given .1))
 
 pub add-spec : {M : Type 1} → statement M
 add-spec =
