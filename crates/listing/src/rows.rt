@@ -21,7 +21,8 @@ use refusals::NONE;
 ghost use mathlib.Core.Path.{_≡_};
 ghost use Rattle.refusals.specs.Refusals.{done};
 ghost use Rattle.lent_buffer.specs.Laying.{laid};
-ghost use Rattle.listing_rules.specs.Listing.{headerRow, datedKind, timeKind, dateColumn, timeColumn, receptionWord, seasonWord, statusColumn, datedColumns, timeOnlyColumns, columns, recordRow, refusedRow, eventRow, strayRow};
+ghost use Rattle.listing_rules.specs.Listing.{headerRow, datedKind, timeKind, dateColumn, timeColumn, receptionWord, seasonWord, statusColumn};
+ghost use Rattle.listing_rules.specs.Listing.{datedColumns, timeOnlyColumns, columns, recordRow, refusedRow, eventRow, strayRow};
 ghost use Rattle.listing.specs.Texts.{textOf, appended};
 ghost use Rattle.listing_rules.specs.Answers.{rowAnswer};
 

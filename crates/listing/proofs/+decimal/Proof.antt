@@ -24,8 +24,16 @@ abbrev given-at : ℕ → In 1 decimal-kinds.ps
 given-at t = and 1 decimal-kinds.ps (is 1 decimal-kinds.ps μ-decimal t) decimal.Pre
 
 abbrev calls : ℕ → decimal-lts.Claims
-calls t =
-    (digit-reads.Asked, digit-reads.Learnt, push-reads.Asked, push-reads.Learnt, two-reads.Asked, two-reads.Learnt, and 1 decimal-kinds.ps (falls 1 decimal-kinds.ps _<_ μ-decimal t) decimal.Pre, decimal.Post)
+calls t = (
+  digit-reads.Asked,
+  digit-reads.Learnt,
+  push-reads.Asked,
+  push-reads.Learnt,
+  two-reads.Asked,
+  two-reads.Learnt,
+  and 1 decimal-kinds.ps (falls 1 decimal-kinds.ps _<_ μ-decimal t) decimal.Pre,
+  decimal.Post,
+)
 
 module _ (t : ℕ) where
   digit-requires : decimal-lts.Need-digit-requires (calls t) (given-at t) decimal.Post
@@ -44,8 +52,9 @@ module _ (t : ℕ) where
 
   returns-2 : decimal-lts.Need-returns-2 (calls t) (given-at t) decimal.Post
   returns-2 c =
+      let a = c .before .before .before .before .args in
       c .two .ensures
-      ∙ ap (appended (textOf (c .before .before .before .before .args .text .now) (c .before .before .before .before .args .len))) (sym (decimal-pair _ (c .before .before .before .if1 .left) (c .before .before .if2 .taken)))
+      ∙ ap (appended (textOf (a .text .now) (a .len))) (sym (decimal-pair _ (c .before .before .before .if1 .left) (c .before .before .if2 .taken)))
 
   decimal-requires : decimal-lts.Need-decimal-requires (calls t) (given-at t) decimal.Post
   decimal-requires c κs = (omega (arith, c .before .before .before .pre .0), tt)
@@ -55,8 +64,9 @@ module _ (t : ℕ) where
 
   returns-3 : decimal-lts.Need-returns-3 (calls t) (given-at t) decimal.Post
   returns-3 c =
+      let a = c .before .before .before .before .before .before .args in
       behind _ _ _ (c .before .before .decimal .ensures) (c .two2 .ensures)
-      ∙ ap (appended (textOf (c .before .before .before .before .before .before .args .text .now) (c .before .before .before .before .before .before .args .len))) (sym (decimal-pairs _ (c .before .before .before .before .if2 .left)))
+      ∙ ap (appended (textOf (a .text .now) (a .len))) (sym (decimal-pairs _ (c .before .before .before .before .if2 .left)))
 
 pub +decimal-spec : {M : Type 1} → statement M
 +decimal-spec =

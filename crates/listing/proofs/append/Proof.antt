@@ -32,12 +32,14 @@ loop-less c = omega arith
 
 loop-again : tie.Need-loop-again Inv-loop μ-loop
 loop-again c =
-    one-more (textOf (c .before .before .before .before .loop .text) (c .before .before .before .before .loop .end)) _ (c .before .before .before .before .before .before .args .word .now) (c .before .before .before .before .loop .at) (c .before .before .before .loop-test .taken) (c .push .ensures)
-    ∙ c .before .before .before .before .loop .inv
+    let l = c .before .before .before .before .loop in
+    let word = c .before .before .before .before .before .before .args .word .now in
+    one-more (textOf (l .text) (l .end)) _ word (l .at) (c .before .before .before .loop-test .taken) (c .push .ensures) ∙ l .inv
 
 returns : tie.Need-returns Inv-loop μ-loop
 returns c =
-    sym (no-more (textOf (c .before .loop .text) (c .before .loop .end)) (c .before .before .before .args .word .now) (c .before .loop .at) (omega arith)) ∙ c .before .loop .inv
+    let l = c .before .loop in
+    sym (no-more (textOf (l .text) (l .end)) (c .before .before .before .args .word .now) (l .at) (omega arith)) ∙ l .inv
 
 pub append-spec : {M : Type 1} → statement M
 append-spec =

@@ -36,8 +36,12 @@ loop-less c = omega arith
 loop-again : tie.Need-loop-again Inv-loop μ-loop
 loop-again c =
     let l = c .before .before .loop in
-    let bytes = c .before .before .before .before .args .bytes .now in
-    (omega arith, length-set (l .out) (l .at) _ ∙ l .inv .1, ap (λ o. set o (l .at) (getD bytes (l .at) 0)) (l .inv .2) ∙ copy-step bytes (c .before .before .before .before .args .out .now) (l .at) (omega arith) (omega arith))
+    let a = c .before .before .before .before .args in
+    let bytes = a .bytes .now in (
+      omega arith,
+      length-set (l .out) (l .at) _ ∙ l .inv .1,
+      ap (λ o. set o (l .at) (getD bytes (l .at) 0)) (l .inv .2) ∙ copy-step bytes (a .out .now) (l .at) (omega arith) (omega arith),
+    )
 
 same-length : tie.Need-same-length Inv-loop μ-loop
 same-length c = c .before .loop .inv .1
@@ -45,7 +49,8 @@ same-length c = c .before .loop .inv .1
 returns-2 : tie.Need-returns-2 Inv-loop μ-loop
 returns-2 c =
     let l = c .before .loop in
-    all-laid (c .before .before .before .args .bytes .now) (c .before .before .before .args .out .now) (c .before .before .before .args .len) (c .before .before .before .pre) _ (l .at) (c .before .before .if1 .left) (omega arith) (l .inv .2)
+    let a = c .before .before .before .args in
+    all-laid (a .bytes .now) (a .out .now) (a .len) (c .before .before .before .pre) _ (l .at) (c .before .before .if1 .left) (omega arith) (l .inv .2)
 
 pub lay-spec : {M : Type 1} → statement M
 lay-spec =

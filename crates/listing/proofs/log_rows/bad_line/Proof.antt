@@ -29,7 +29,8 @@ whole : (c : tie.After-push) → Holds (textOf (c .push .last .0) (c .push .resu
 unfolding badCount
 whole c =
     let a = entry c .args in
-    holds _ _ (behind _ _ _ (behind _ _ _ (c .before .before .before .before .append .ensures) (c .before .before .decimal .ensures)) (c .push .ensures)) (omega (arith, bad-count-short (a .bad) (omega arith)))
+    let number = behind _ _ _ (c .before .before .before .before .append .ensures) (c .before .before .decimal .ensures) in
+    holds _ _ (behind _ _ _ number (c .push .ensures)) (omega (arith, bad-count-short (a .bad) (omega arith)))
 
 slice-aggregate-lay : tie.Need-slice-aggregate-lay
 slice-aggregate-lay c = sym (whole (c .before) .room)

@@ -17,7 +17,10 @@ push-requires-2 : tie.Need-push-requires-2
 push-requires-2 c κs = search needs
 
 returns : tie.Need-returns
-returns c = behind _ _ _ (behind _ _ _ (behind _ _ _ (c .before .before .before .before .before .before .decimal .ensures) (c .before .before .before .before .push .ensures)) (c .before .before .decimal2 .ensures)) (c .push2 .ensures)
+returns c =
+    let block = behind _ _ _ (c .before .before .before .before .before .before .decimal .ensures) (c .before .before .before .before .push .ensures) in
+    let offset = behind _ _ _ block (c .before .before .decimal2 .ensures) in
+    behind _ _ _ offset (c .push2 .ensures)
 
 pub block-columns-spec : {M : Type 1} → statement M
 block-columns-spec =

@@ -32,7 +32,10 @@ whole : (c : tie.After-push) → Holds (textOf (c .push .last .0) (c .push .resu
 unfolding goodRow
 whole c =
     let a = entry c .args in
-    holds _ _ (behind _ _ _ (behind _ _ _ (behind _ _ _ (c .before .before .before .before .before .before .before .block-columns .ensures) (c .before .before .before .before .append .ensures)) (c .before .before .decimal .ensures)) (c .push .ensures)) (omega (arith, good-short (a .block) (a .offset) (omega arith) (omega arith) (a .telegrams) (omega arith)))
+    let word = behind _ _ _ (c .before .before .before .before .before .before .before .block-columns .ensures) (c .before .before .before .before .append .ensures) in
+    let telegrams = behind _ _ _ word (c .before .before .decimal .ensures) in
+    holds _ _ (behind _ _ _ telegrams (c .push .ensures))
+    (omega (arith, good-short (a .block) (a .offset) (omega arith) (omega arith) (a .telegrams) (omega arith)))
 
 slice-aggregate-lay : tie.Need-slice-aggregate-lay
 slice-aggregate-lay c = sym (whole (c .before) .room)

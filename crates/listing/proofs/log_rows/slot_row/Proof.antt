@@ -57,8 +57,9 @@ returns-2 : tie.Need-returns-2
 returns-2 c =
     let made = c .before .before .before .before .before in
     let a = entry made .args in
-    ap (λ o. laid o (a .out .now)) (rule-passes (a .rec) (slotRow (a .block) (a .slot) (a .rec)) _ (c .before .before .before .before .before .before .before .before .before .before .before .before .before .before .before .before .refusal .ensures) (c .before .before .before .before .before .before .before .before .before .before .before .before .before .before .before .if1 .left))
-    ∙ row-laid (whole made) (a .out .now) (c .before .before .lay .ensures)
+    let tested = c .before .before .before .before .before .before .before .before .before .before .before .before .before .before .before in
+    let passes = rule-passes (a .rec) (slotRow (a .block) (a .slot) (a .rec)) _ (tested .before .refusal .ensures) (tested .if1 .left) in
+    ap (λ o. laid o (a .out .now)) passes ∙ row-laid (whole made) (a .out .now) (c .before .before .lay .ensures)
 
 pub slot-row-spec : {M : Type 1} → statement M
 slot-row-spec =

@@ -29,7 +29,10 @@ two-requires-2 : tie.Need-two-requires-2
 two-requires-2 c κs = search needs
 
 returns : tie.Need-returns
-returns c = behind _ _ _ (c .before .before .before .before .before .before .before .before .before .before .four .ensures) (behind _ _ _ (c .before .before .before .before .before .before .before .before .push .ensures) (behind _ _ _ (c .before .before .before .before .before .two .ensures) (behind _ _ _ (c .before .before .before .push2 .ensures) (c .two2 .ensures))))
+returns c =
+    let day = behind _ _ _ (c .before .before .before .push2 .ensures) (c .two2 .ensures) in
+    let month = behind _ _ _ (c .before .before .before .before .before .before .before .before .push .ensures) (behind _ _ _ (c .before .before .before .before .before .two .ensures) day) in
+    behind _ _ _ (c .before .before .before .before .before .before .before .before .before .before .four .ensures) month
 
 pub date-column-spec : {M : Type 1} → statement M
 date-column-spec =

@@ -41,10 +41,14 @@ push-requires-6 c κs = search needs
 returns : tie.Need-returns
 unfolding datedColumns
 returns c =
-    let kind = behind _ _ _ (c .before .before .before .before .before .before .before .before .before .before .before .before .before .before .before .before .before .before .before .dated-kind .ensures) (c .before .before .before .before .before .before .before .before .before .before .before .before .before .before .before .before .before .push .ensures) in
-    let day = behind _ _ _ (behind _ _ _ kind (c .before .before .before .before .before .before .before .before .before .before .before .before .before .before .before .date-column .ensures)) (c .before .before .before .before .before .before .before .before .before .before .before .before .before .push2 .ensures) in
-    let second = behind _ _ _ (behind _ _ _ day (c .before .before .before .before .before .before .before .before .before .before .before .time-column .ensures)) (c .before .before .before .before .before .before .before .before .before .push3 .ensures) in
-    let week = behind _ _ _ (behind _ _ _ second (as-byte _ (c .before .before .before .before .before .before .before .digit .ensures) (c .before .before .before .before .before .before .push4 .ensures))) (c .before .before .before .before .push5 .ensures) in
+    let to-kind = c .before .before .before .before .before .before .before .before .before .before .before .before .before .before .before .before .before in
+    let kind = behind _ _ _ (to-kind .before .before .dated-kind .ensures) (to-kind .push .ensures) in
+    let to-day = c .before .before .before .before .before .before .before .before .before .before .before .before .before in
+    let day = behind _ _ _ (behind _ _ _ kind (to-day .before .before .date-column .ensures)) (to-day .push2 .ensures) in
+    let to-second = c .before .before .before .before .before .before .before .before .before in
+    let second = behind _ _ _ (behind _ _ _ day (to-second .before .before .time-column .ensures)) (to-second .push3 .ensures) in
+    let weekday = as-byte _ (c .before .before .before .before .before .before .before .digit .ensures) (c .before .before .before .before .before .before .push4 .ensures) in
+    let week = behind _ _ _ (behind _ _ _ second weekday) (c .before .before .before .before .push5 .ensures) in
     behind _ _ _ (behind _ _ _ week (c .before .before .status-column .ensures)) (c .push6 .ensures)
 
 pub dated-columns-spec : {M : Type 1} → statement M

@@ -26,7 +26,8 @@ whole : (c : tie.After-columns) → Holds (textOf (c .columns .last .0) (c .colu
 unfolding recordRow
 whole c =
     let a = entry c .args in
-    holds _ _ (behind _ _ _ (behind _ _ _ (c .before .before .before .before .decimal .ensures) (c .before .before .push .ensures)) (c .columns .ensures)) (omega (arith, record-short (a .start) (omega arith) (a .rec)))
+    let start = behind _ _ _ (c .before .before .before .before .decimal .ensures) (c .before .before .push .ensures) in
+    holds _ _ (behind _ _ _ start (c .columns .ensures)) (omega (arith, record-short (a .start) (omega arith) (a .rec)))
 
 slice-aggregate-lay : tie.Need-slice-aggregate-lay
 slice-aggregate-lay c = sym (whole (c .before) .room)

@@ -32,7 +32,10 @@ whole : (c : tie.After-push) → Holds (textOf (c .push .last .0) (c .push .resu
 unfolding refusedRow
 whole c =
     let a = entry c .args in
-    holds _ _ (behind _ _ _ (behind _ _ _ (behind _ _ _ (c .before .before .before .before .before .before .before .decimal .ensures) (c .before .before .before .before .append .ensures)) (c .before .before .decimal2 .ensures)) (c .push .ensures)) (omega (arith, refused-short (a .start) (a .number) (omega arith) (omega arith)))
+    let start = behind _ _ _ (c .before .before .before .before .before .before .before .decimal .ensures) (c .before .before .before .before .append .ensures) in
+    let number = behind _ _ _ start (c .before .before .decimal2 .ensures) in
+    holds _ _ (behind _ _ _ number (c .push .ensures))
+    (omega (arith, refused-short (a .start) (a .number) (omega arith) (omega arith)))
 
 slice-aggregate-lay : tie.Need-slice-aggregate-lay
 slice-aggregate-lay c = sym (whole (c .before) .room)

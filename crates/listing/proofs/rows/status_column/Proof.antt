@@ -25,7 +25,10 @@ append-if-requires-2 c κs = search needs
 
 returns : tie.Need-returns
 unfolding statusColumn
-returns c = behind _ _ _ (behind _ _ _ (behind _ _ _ (c .before .before .before .before .before .before .before .before .reception-word .ensures) (c .before .before .before .before .before .before .season-word .ensures)) (c .before .before .before .append-if .ensures)) (c .append-if2 .ensures)
+returns c =
+    let season = behind _ _ _ (c .before .before .before .before .before .before .before .before .reception-word .ensures) (c .before .before .before .before .before .before .season-word .ensures) in
+    let utc = behind _ _ _ season (c .before .before .before .append-if .ensures) in
+    behind _ _ _ utc (c .append-if2 .ensures)
 
 pub status-column-spec : {M : Type 1} → statement M
 status-column-spec =

@@ -29,7 +29,10 @@ two-requires-3 : tie.Need-two-requires-3
 two-requires-3 c κs = search needs
 
 returns : tie.Need-returns
-returns c = behind _ _ _ (c .before .before .before .before .before .before .before .before .before .before .two .ensures) (behind _ _ _ (c .before .before .before .before .before .before .before .before .push .ensures) (behind _ _ _ (c .before .before .before .before .before .two2 .ensures) (behind _ _ _ (c .before .before .before .push2 .ensures) (c .two3 .ensures))))
+returns c =
+    let second = behind _ _ _ (c .before .before .before .push2 .ensures) (c .two3 .ensures) in
+    let minute = behind _ _ _ (c .before .before .before .before .before .before .before .before .push .ensures) (behind _ _ _ (c .before .before .before .before .before .two2 .ensures) second) in
+    behind _ _ _ (c .before .before .before .before .before .before .before .before .before .before .two .ensures) minute
 
 pub time-column-spec : {M : Type 1} → statement M
 time-column-spec =

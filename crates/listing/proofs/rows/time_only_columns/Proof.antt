@@ -25,7 +25,10 @@ append-requires-2 c κs = search needs
 
 returns : tie.Need-returns
 unfolding timeOnlyColumns
-returns c = behind _ _ _ (behind _ _ _ (behind _ _ _ (c .before .before .before .before .before .before .before .before .time-kind .ensures) (c .before .before .before .before .before .append .ensures)) (c .before .before .before .time-column .ensures)) (c .append2 .ensures)
+returns c =
+    let kind = behind _ _ _ (c .before .before .before .before .before .before .before .before .time-kind .ensures) (c .before .before .before .before .before .append .ensures) in
+    let time = behind _ _ _ kind (c .before .before .before .time-column .ensures) in
+    behind _ _ _ time (c .append2 .ensures)
 
 pub time-only-columns-spec : {M : Type 1} → statement M
 time-only-columns-spec =
