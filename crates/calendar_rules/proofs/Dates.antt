@@ -50,8 +50,15 @@ pub not-refused : (date : Date) → Good date → dateRefusal date ≡ 0
 unfolding dateRefusal dateInRange monthInRange dayExists
 not-refused date g =
     let short = month-28-to-31 (date .year) (date .month) .1 in
-    simp
-    (le-leb 1980 _ (g .from-year), le-leb _ 2079 (g .to-year), le-leb 1 _ (g .from-month), le-leb _ 12 (g .to-month), le-leb 1 _ (g .from-day), le-leb (date .day) 31 (omega (arith, g .to-day)), le-leb _ _ (g .to-day))
+    simp (
+      le-leb 1980 _ (g .from-year),
+      le-leb _ 2079 (g .to-year),
+      le-leb 1 _ (g .from-month),
+      le-leb _ 12 (g .to-month),
+      le-leb 1 _ (g .from-day),
+      le-leb (date .day) 31 (omega (arith, g .to-day)),
+      le-leb _ _ (g .to-day),
+    )
 
 -- A good date's month stands in the table, and its day lies in that month.
 module _ (date : Date) (g : Good date) where

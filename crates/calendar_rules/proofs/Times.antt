@@ -35,7 +35,14 @@ good time e = good-range time (not-false _ (when-none 5 _ e))
 pub in-range : (time : Time) → Good time → timeInRange time ≡ true
 unfolding timeInRange
 in-range time g =
-    simp (le-leb 0 (time .hour) (omega arith), le-leb 0 (time .minute) (omega arith), le-leb 0 (time .second) (omega arith), le-leb _ _ (g .to-hour), le-leb _ _ (g .to-minute), le-leb _ _ (g .to-second))
+    simp (
+      le-leb 0 (time .hour) (omega arith),
+      le-leb 0 (time .minute) (omega arith),
+      le-leb 0 (time .second) (omega arith),
+      le-leb _ _ (g .to-hour),
+      le-leb _ _ (g .to-minute),
+      le-leb _ _ (g .to-second),
+    )
 
 pub not-refused : (time : Time) → Good time → timeRefusal time ≡ 0
 unfolding timeRefusal

@@ -45,7 +45,8 @@ cast-t12 c =
 returns-2 : tie.Need-returns-2
 unfolding unless dateOf dateAt
 returns-2 c =
-    rw (lt-leb 36525 _ (c .before .before .before .before .if1 .left), ← c .before .before .before .month-holding .ensures .0, c .before .before .before .month-holding .ensures .1, c .before .before .before .month-holding .ensures .0)
+    let found = c .before .before .before .month-holding .ensures in
+    rw (lt-leb 36525 _ (c .before .before .before .before .if1 .left), ← found .0, found .1, found .0)
 
 pub date-of-spec : {M : Type 1} → statement M
 date-of-spec =

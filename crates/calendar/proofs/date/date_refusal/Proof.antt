@@ -31,14 +31,16 @@ month-length-requires c κs = search needs
 returns-3 : tie.Need-returns-3
 unfolding dateRefusal dateInRange dayExists
 returns-3 c =
-    simp
-    (sym (c .before .before .before .before .before .before .before .month-in-range .ensures) ∙ not-false _ (c .before .before .before .before .before .before .if1 .left), sym (c .before .before .before .before .inside .ensures) ∙ not-false _ (c .before .before .before .if2 .left), sym (c .before .before .month-length .ensures), lt-leb _ _ (c .if3 .taken))
+    let month = sym (c .before .before .before .before .before .before .before .month-in-range .ensures) ∙ not-false _ (c .before .before .before .before .before .before .if1 .left) in
+    let day = sym (c .before .before .before .before .inside .ensures) ∙ not-false _ (c .before .before .before .if2 .left) in
+    simp (month, day, sym (c .before .before .month-length .ensures), lt-leb _ _ (c .if3 .taken))
 
 returns-4 : tie.Need-returns-4
 unfolding dateRefusal dateInRange dayExists
 returns-4 c =
-    simp
-    (sym (c .before .before .before .before .before .before .before .month-in-range .ensures) ∙ not-false _ (c .before .before .before .before .before .before .if1 .left), sym (c .before .before .before .before .inside .ensures) ∙ not-false _ (c .before .before .before .if2 .left), sym (c .before .before .month-length .ensures), le-leb _ _ (c .if3 .left))
+    let month = sym (c .before .before .before .before .before .before .before .month-in-range .ensures) ∙ not-false _ (c .before .before .before .before .before .before .if1 .left) in
+    let day = sym (c .before .before .before .before .inside .ensures) ∙ not-false _ (c .before .before .before .if2 .left) in
+    simp (month, day, sym (c .before .before .month-length .ensures), le-leb _ _ (c .if3 .left))
 
 pub date-refusal-spec : {M : Type 1} → statement M
 date-refusal-spec =

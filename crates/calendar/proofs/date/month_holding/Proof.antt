@@ -40,14 +40,16 @@ cast-loop c = search needs
 
 sub-month : tie.Need-sub-month Inv-loop μ-loop
 sub-month c =
-    not-january (c .before .before .before .args .day) (c .before .before .before .pre) _ (c .before .before .month-starts .ensures) (c .before .loop .month) (c .before .loop .inv .0) (c .loop-test .taken)
+    let l = c .before .loop in
+    not-january (c .before .before .before .args .day) (c .before .before .before .pre) _ (c .before .before .month-starts .ensures) (l .month) (l .inv .0) (c .loop-test .taken)
 
 loop-less : tie.Need-loop-less Inv-loop μ-loop
 loop-less c = omega (arith, sub-month c)
 
 loop-again : tie.Need-loop-again Inv-loop μ-loop
 loop-again c =
-    (omega arith, month-before (c .before .before .before .args .day) (c .before .before .before .pre) _ (c .before .before .month-starts .ensures) (c .before .loop .month) (c .before .loop .inv .0) (c .loop-test .taken))
+    let l = c .before .loop in
+    (omega arith, month-before (c .before .before .before .args .day) (c .before .before .before .pre) _ (c .before .before .month-starts .ensures) (l .month) (l .inv .0) (c .loop-test .taken))
 
 mul-t5 : tie.Need-mul-t5 Inv-loop μ-loop
 mul-t5 c = search needs
@@ -69,7 +71,8 @@ cast-t19 c = search needs
 
 returns : tie.Need-returns Inv-loop μ-loop
 returns c =
-    month-found (c .before .before .before .args .day) (c .before .before .before .pre) _ (c .before .before .month-starts .ensures) (c .before .loop .month) (c .before .loop .inv .0) (c .loop-test .left) (c .before .loop .inv .1)
+    let l = c .before .loop in
+    month-found (c .before .before .before .args .day) (c .before .before .before .pre) _ (c .before .before .month-starts .ensures) (l .month) (l .inv .0) (c .loop-test .left) (l .inv .1)
 
 pub month-holding-spec : {M : Type 1} → statement M
 month-holding-spec =

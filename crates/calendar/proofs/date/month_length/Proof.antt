@@ -26,8 +26,13 @@ returns-4 : tie.Need-returns-4
 unfolding monthLength
 returns-4 c =
     let other = c .match .rest .1 in
-    simp
-    (ne-eqb _ 2 (c .match .rest .0 .1), ne-eqb _ 4 (λ e. other (inl e)), ne-eqb _ 6 (λ e. other (inr (inl e))), ne-eqb _ 9 (λ e. other (inr (inr (inl e)))), ne-eqb _ 11 (λ e. other (inr (inr (inr e)))))
+    simp (
+      ne-eqb _ 2 (c .match .rest .0 .1),
+      ne-eqb _ 4 (λ e. other (inl e)),
+      ne-eqb _ 6 (λ e. other (inr (inl e))),
+      ne-eqb _ 9 (λ e. other (inr (inr (inl e)))),
+      ne-eqb _ 11 (λ e. other (inr (inr (inr e)))),
+    )
 
 pub month-length-spec : {M : Type 1} → statement M
 month-length-spec = tie.close (tie.spec is-leap-requires returns returns-2 returns-3 returns-4)

@@ -26,8 +26,8 @@ returns-2 : tie.Need-returns-2
 unfolding unless nextDay dayAfter
 returns-2 c =
     let short = rw (c .before .before .before .month-length .ensures) at (c .before .if2 .taken) in
-    simp
-    (sym (c .before .before .before .before .before .date-refusal .ensures) ∙ c .before .before .before .before .if1 .left, not-last-day _ short, lt-ltb _ _ short)
+    let none = sym (c .before .before .before .before .before .date-refusal .ensures) ∙ c .before .before .before .before .if1 .left in
+    simp (none, not-last-day _ short, lt-ltb _ _ short)
 
 add-t7 : tie.Need-add-t7
 add-t7 c = search needs
@@ -36,8 +36,9 @@ returns-3 : tie.Need-returns-3
 unfolding unless nextDay dayAfter
 returns-3 c =
     let full = rw (c .before .before .before .before .before .month-length .ensures) at (c .before .before .before .if2 .left) in
-    simp
-    (sym (c .before .before .before .before .before .before .before .date-refusal .ensures) ∙ c .before .before .before .before .before .before .if1 .left, not-last-month (c .before .before .before .before .before .before .before .before .args .date) (c .before .if3 .taken), le-ltb _ _ full, lt-ltb (c .before .before .before .before .before .before .before .before .args .date .month) 12 (c .before .if3 .taken))
+    let none = sym (c .before .before .before .before .before .before .before .date-refusal .ensures) ∙ c .before .before .before .before .before .before .if1 .left in
+    let date = c .before .before .before .before .before .before .before .before .args .date in
+    simp (none, not-last-month date (c .before .if3 .taken), le-ltb _ _ full, lt-ltb (date .month) 12 (c .before .if3 .taken))
 
 add-t9 : tie.Need-add-t9
 add-t9 c = search needs
@@ -46,8 +47,9 @@ returns-4 : tie.Need-returns-4
 unfolding unless nextDay dayAfter
 returns-4 c =
     let full = rw (c .before .before .before .before .before .before .before .month-length .ensures) at (c .before .before .before .before .before .if2 .left) in
-    simp
-    (sym (c .before .before .before .before .before .before .before .before .before .date-refusal .ensures) ∙ c .before .before .before .before .before .before .before .before .if1 .left, not-last-year (c .before .before .before .before .before .before .before .before .before .before .args .date) (c .before .if4 .taken), le-ltb _ _ full, le-ltb (c .before .before .before .before .before .before .before .before .before .before .args .date .month) 12 (c .before .before .before .if3 .left))
+    let none = sym (c .before .before .before .before .before .before .before .before .before .date-refusal .ensures) ∙ c .before .before .before .before .before .before .before .before .if1 .left in
+    let date = c .before .before .before .before .before .before .before .before .before .before .args .date in
+    simp (none, not-last-year date (c .before .if4 .taken), le-ltb _ _ full, le-ltb (date .month) 12 (c .before .before .before .if3 .left))
 
 returns-5 : tie.Need-returns-5
 unfolding unless nextDay

@@ -21,8 +21,9 @@ add-t4 c = search needs
 returns-2 : tie.Need-returns-2
 unfolding unless timeRefusal timeAfter nextSecond
 returns-2 c =
-    simp
-    (sym (c .before .before .before .before .time-in-range .ensures) ∙ not-false _ (c .before .before .before .if1 .left), not-last-second (c .before .before .before .before .before .args .time) (c .before .if2 .taken), lt-ltb _ _ (c .before .if2 .taken))
+    let range = sym (c .before .before .before .before .time-in-range .ensures) ∙ not-false _ (c .before .before .before .if1 .left) in
+    let second = c .before .if2 .taken in
+    simp (range, not-last-second (c .before .before .before .before .before .args .time) second, lt-ltb _ _ second)
 
 add-t6 : tie.Need-add-t6
 add-t6 c = search needs
@@ -30,8 +31,10 @@ add-t6 c = search needs
 returns-3 : tie.Need-returns-3
 unfolding unless timeRefusal timeAfter nextSecond
 returns-3 c =
-    simp
-    (sym (c .before .before .before .before .before .before .time-in-range .ensures) ∙ not-false _ (c .before .before .before .before .before .if1 .left), not-last-minute (c .before .before .before .before .before .before .before .args .time) (c .before .if3 .taken), le-ltb _ _ (c .before .before .before .if2 .left), lt-ltb _ _ (c .before .if3 .taken))
+    let range = sym (c .before .before .before .before .before .before .time-in-range .ensures) ∙ not-false _ (c .before .before .before .before .before .if1 .left) in
+    let second = c .before .before .before .if2 .left in
+    let minute = c .before .if3 .taken in
+    simp (range, not-last-minute (c .before .before .before .before .before .before .before .args .time) minute, le-ltb _ _ second, lt-ltb _ _ minute)
 
 add-t8 : tie.Need-add-t8
 add-t8 c = search needs
@@ -39,15 +42,21 @@ add-t8 c = search needs
 returns-4 : tie.Need-returns-4
 unfolding unless timeRefusal timeAfter nextSecond
 returns-4 c =
-    simp
-    (sym (c .before .before .before .before .before .before .before .before .time-in-range .ensures) ∙ not-false _ (c .before .before .before .before .before .before .before .if1 .left), not-last-hour (c .before .before .before .before .before .before .before .before .before .args .time) (c .before .if4 .taken), le-ltb _ _ (c .before .before .before .before .before .if2 .left), le-ltb _ _ (c .before .before .before .if3 .left), lt-ltb _ _ (c .before .if4 .taken))
+    let range = sym (c .before .before .before .before .before .before .before .before .time-in-range .ensures) ∙ not-false _ (c .before .before .before .before .before .before .before .if1 .left) in
+    let second = c .before .before .before .before .before .if2 .left in
+    let minute = c .before .before .before .if3 .left in
+    let hour = c .before .if4 .taken in
+    simp (range, not-last-hour (c .before .before .before .before .before .before .before .before .before .args .time) hour, le-ltb _ _ second, le-ltb _ _ minute, lt-ltb _ _ hour)
 
 returns-5 : tie.Need-returns-5
 unfolding unless timeRefusal timeAfter nextSecond
 returns-5 c =
     let range = sym (c .before .before .before .before .before .before .before .time-in-range .ensures) ∙ not-false _ (c .before .before .before .before .before .before .if1 .left) in
-    simp
-    (range, last-second (c .before .before .before .before .before .before .before .before .args .time) (good-range _ range) (c .if4 .left) (c .before .before .if3 .left) (c .before .before .before .before .if2 .left), le-ltb _ _ (c .before .before .before .before .if2 .left), le-ltb _ _ (c .before .before .if3 .left), le-ltb _ _ (c .if4 .left))
+    let second = c .before .before .before .before .if2 .left in
+    let minute = c .before .before .if3 .left in
+    let hour = c .if4 .left in
+    let last = last-second (c .before .before .before .before .before .before .before .before .args .time) (good-range _ range) hour minute second in
+    simp (range, last, le-ltb _ _ second, le-ltb _ _ minute, le-ltb _ _ hour)
 
 pub next-second-spec : {M : Type 1} → statement M
 next-second-spec =

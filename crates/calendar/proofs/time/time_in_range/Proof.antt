@@ -36,7 +36,9 @@ inside-requires-3 c κs = search needs
 returns-3 : tie.Need-returns-3
 unfolding timeInRange
 returns-3 c =
-    rw (sym (c .before .before .before .before .before .before .inside .ensures) ∙ not-false _ (c .before .before .before .before .before .if1 .left), sym (c .before .before .before .inside2 .ensures) ∙ not-false _ (c .before .before .if2 .left)) (c .inside3 .ensures)
+    let hour = sym (c .before .before .before .before .before .before .inside .ensures) ∙ not-false _ (c .before .before .before .before .before .if1 .left) in
+    let minute = sym (c .before .before .before .inside2 .ensures) ∙ not-false _ (c .before .before .if2 .left) in
+    rw (hour, minute) (c .inside3 .ensures)
 
 pub time-in-range-spec : {M : Type 1} → statement M
 time-in-range-spec =
