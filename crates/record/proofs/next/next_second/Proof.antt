@@ -61,44 +61,58 @@ enum-known-number-3 c = search needs
 
 returns-2 : tie.Need-returns-2
 returns-2 c =
-    let none = rw (c .before .before .before .before .before .rec .given .1) at (sym (c .before .before .before .before .before .before .before .before .refusal .ensures) ∙ c .before .before .before .before .before .before .before .if1 .left) in
+    let is-alone = c .before .before .before .before .before .rec .given .1 in
+    let judged = c .before .before .before .before .before .before .before in
+    let none = rw is-alone at (sym (judged .before .refusal .ensures) ∙ judged .if1 .left) in
     time-goes-on _ _ _ false none (sym (c .before .before .before .next-time .ensures) ∙ ap nextSecondAnswer (c .before .next .given .1))
-    ∙ ap nextSecondOf (sym (c .before .before .before .before .before .rec .given .1))
+    ∙ ap nextSecondOf (sym is-alone)
 
 returns-3 : tie.Need-returns-3
 returns-3 c =
-    let none = rw (c .before .before .before .before .before .rec .given .1) at (sym (c .before .before .before .before .before .before .before .before .refusal .ensures) ∙ c .before .before .before .before .before .before .before .if1 .left) in
+    let is-alone = c .before .before .before .before .before .rec .given .1 in
+    let judged = c .before .before .before .before .before .before .before in
+    let none = rw is-alone at (sym (judged .before .refusal .ensures) ∙ judged .if1 .left) in
     time-goes-on _ _ _ true none (sym (c .before .before .before .next-time .ensures) ∙ ap nextSecondAnswer (c .before .next2 .given .1))
-    ∙ ap nextSecondOf (sym (c .before .before .before .before .before .rec .given .1))
+    ∙ ap nextSecondOf (sym is-alone)
 
 returns-4 : tie.Need-returns-4
 returns-4 c =
-    let none = rw (c .before .before .before .before .before .rec .given .1) at (sym (c .before .before .before .before .before .before .before .before .refusal .ensures) ∙ c .before .before .before .before .before .before .before .if1 .left) in
+    let is-alone = c .before .before .before .before .before .rec .given .1 in
+    let judged = c .before .before .before .before .before .before .before in
+    let none = rw is-alone at (sym (judged .before .refusal .ensures) ∙ judged .if1 .left) in
     absurd (goes-on _ _ (alone-up-to-59 _ none) (sym (c .before .before .before .next-time .ensures) ∙ ap nextSecondAnswer (c .before .number .given .1)))
 
 returns-5 : tie.Need-returns-5
 returns-5 c =
-    let none = rw (c .before .before .before .before .before .rec2 .given .1) at (sym (c .before .before .before .before .before .before .before .before .refusal .ensures) ∙ c .before .before .before .before .before .before .before .if1 .left) in
+    let is-dated = c .before .before .before .before .before .rec2 .given .1 in
+    let judged = c .before .before .before .before .before .before .before in
+    let none = rw is-dated at (sym (judged .before .refusal .ensures) ∙ judged .if1 .left) in
     same-day _ _ _ _ _ none _ (sym (c .before .before .before .next-time2 .ensures) ∙ ap nextSecondAnswer (c .before .next3 .given .1))
-    ∙ ap nextSecondOf (sym (c .before .before .before .before .before .rec2 .given .1))
+    ∙ ap nextSecondOf (sym is-dated)
 
 returns-6 : tie.Need-returns-6
 returns-6 c =
-    let none = rw (c .before .before .before .before .before .before .before .before .before .rec2 .given .1) at (sym (c .before .before .before .before .before .before .before .before .before .before .before .before .refusal .ensures) ∙ c .before .before .before .before .before .before .before .before .before .before .before .if1 .left) in
+    let is-dated = c .before .before .before .before .before .before .before .before .before .rec2 .given .1 in
+    let judged = c .before .before .before .before .before .before .before .before .before .before .before in
+    let none = rw is-dated at (sym (judged .before .refusal .ensures) ∙ judged .if1 .left) in
     let time = sym (c .before .before .before .before .before .before .before .next-time2 .ensures) ∙ ap nextSecondAnswer (c .before .before .before .before .before .next4 .given .1) in
     next-day _ _ _ _ _ none _ _ time (sym (c .before .before .before .next-day .ensures) ∙ ap dateAnswer (c .before .day .given .1))
-    ∙ ap nextSecondOf (sym (c .before .before .before .before .before .before .before .before .before .rec2 .given .1))
+    ∙ ap nextSecondOf (sym is-dated)
 
 returns-7 : tie.Need-returns-7
 returns-7 c =
-    let none = rw (c .before .before .before .before .before .before .before .before .before .rec2 .given .1) at (sym (c .before .before .before .before .before .before .before .before .before .before .before .before .refusal .ensures) ∙ c .before .before .before .before .before .before .before .before .before .before .before .if1 .left) in
+    let is-dated = c .before .before .before .before .before .before .before .before .before .rec2 .given .1 in
+    let judged = c .before .before .before .before .before .before .before .before .before .before .before in
+    let none = rw is-dated at (sym (judged .before .refusal .ensures) ∙ judged .if1 .left) in
     let time = sym (c .before .before .before .before .before .before .before .next-time2 .ensures) ∙ ap nextSecondAnswer (c .before .before .before .before .before .next4 .given .1) in
     calendar-ends _ _ _ _ _ none _ _ time (sym (c .before .before .before .next-day .ensures) ∙ ap dateAnswer (c .before .number2 .given .1))
-    ∙ ap nextSecondOf (sym (c .before .before .before .before .before .before .before .before .before .rec2 .given .1))
+    ∙ ap nextSecondOf (sym is-dated)
 
 returns-8 : tie.Need-returns-8
 returns-8 c =
-    let none = rw (c .before .before .before .before .before .rec2 .given .1) at (sym (c .before .before .before .before .before .before .before .before .refusal .ensures) ∙ c .before .before .before .before .before .before .before .if1 .left) in
+    let is-dated = c .before .before .before .before .before .rec2 .given .1 in
+    let judged = c .before .before .before .before .before .before .before in
+    let none = rw is-dated at (sym (judged .before .refusal .ensures) ∙ judged .if1 .left) in
     absurd
     (goes-on _ _ (good-up-to-59 _ _ _ _ _ (good _ _ _ _ _ none)) (sym (c .before .before .before .next-time2 .ensures) ∙ ap nextSecondAnswer (c .before .number3 .given .1)))
 

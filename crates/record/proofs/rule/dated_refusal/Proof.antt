@@ -32,9 +32,10 @@ time-allowed-requires c κs = search needs
 returns-3 : tie.Need-returns-3
 unfolding datedRefusal
 returns-3 c =
+    let status = sym (c .before .before .before .before .before .status-allowed .ensures) ∙ not-false _ (c .before .before .before .before .if1 .left) in
+    let weekday = sym (c .before .before .before .weekday-allowed .ensures) ∙ not-false _ (c .before .before .if2 .left) in
     let late = sym (c .before .time-allowed .ensures) ∙ not-true _ (c .if3 .taken) in
-    simp
-    (sym (c .before .before .before .before .before .status-allowed .ensures) ∙ not-false _ (c .before .before .before .before .if1 .left), sym (c .before .before .before .weekday-allowed .ensures) ∙ not-false _ (c .before .before .if2 .left), late)
+    simp (status, weekday, late)
 
 day-number-requires : tie.Need-day-number-requires
 day-number-requires c κs = search needs
@@ -51,21 +52,23 @@ weekday-requires c κs = search needs
 returns-4 : tie.Need-returns-4
 unfolding dayNumber weekdayAgrees
 returns-4 c =
-    let status = sym (c .before .before .before .before .before .before .before .before .before .before .before .status-allowed .ensures) ∙ not-false _ (c .before .before .before .before .before .before .before .before .before .before .if1 .left) in
-    let weekday = sym (c .before .before .before .before .before .before .before .before .before .weekday-allowed .ensures) ∙ not-false _ (c .before .before .before .before .before .before .before .before .if2 .left) in
-    let time = sym (c .before .before .before .before .before .before .before .time-allowed .ensures) ∙ not-false _ (c .before .before .before .before .before .before .if3 .left) in
+    let timed = c .before .before .before .before .before .before in
+    let status = sym (timed .before .before .before .before .before .status-allowed .ensures) ∙ not-false _ (timed .before .before .before .before .if1 .left) in
+    let weekday = sym (timed .before .before .before .weekday-allowed .ensures) ∙ not-false _ (timed .before .before .if2 .left) in
+    let time = sym (timed .before .time-allowed .ensures) ∙ not-false _ (timed .if3 .left) in
     let told = was-done _ _ _ (sym (c .before .before .before .before .before .day-number .ensures) ∙ ap dayAnswer (c .before .before .before .day .given .1)) in
     let wrong = ne-eqb _ _ (λ same. c .if4 .taken (c .before .weekday .ensures ∙ ap weekdayOf (sym (told .1)) ∙ same)) in
-    rw (date-decides _ _ _ (c .before .before .before .before .before .before .before .before .before .before .before .before .args .date) _ status weekday time, told .0, wrong)
+    rw (date-decides _ _ _ (timed .before .before .before .before .before .before .args .date) _ status weekday time, told .0, wrong)
 
 returns-5 : tie.Need-returns-5
 unfolding dayNumber
 returns-5 c =
-    let status = sym (c .before .before .before .before .before .before .before .before .before .status-allowed .ensures) ∙ not-false _ (c .before .before .before .before .before .before .before .before .if1 .left) in
-    let weekday = sym (c .before .before .before .before .before .before .before .weekday-allowed .ensures) ∙ not-false _ (c .before .before .before .before .before .before .if2 .left) in
-    let time = sym (c .before .before .before .before .before .time-allowed .ensures) ∙ not-false _ (c .before .before .before .before .if3 .left) in
+    let timed = c .before .before .before .before in
+    let status = sym (timed .before .before .before .before .before .status-allowed .ensures) ∙ not-false _ (timed .before .before .before .before .if1 .left) in
+    let weekday = sym (timed .before .before .before .weekday-allowed .ensures) ∙ not-false _ (timed .before .before .if2 .left) in
+    let time = sym (timed .before .time-allowed .ensures) ∙ not-false _ (timed .if3 .left) in
     let told = sym (c .before .before .before .day-number .ensures) ∙ ap dayAnswer (c .before .number .given .1) in
-    let args = c .before .before .before .before .before .before .before .before .before .before .args in
+    let args = timed .before .before .before .before .before .before .args in
     let number = was-refused (dateRefusal (args .date)) _ (dayOf (args .date)) told in
     let some = refused-some (dateRefusal (args .date)) _ (dayOf (args .date)) told in
     sym (date-decides _ _ _ (args .date) _ status weekday time ∙ rw number (else-some _ _ some))
@@ -73,12 +76,13 @@ returns-5 c =
 returns-6 : tie.Need-returns-6
 unfolding dayNumber weekdayAgrees
 returns-6 c =
-    let status = sym (c .before .before .before .before .before .before .before .before .before .before .before .status-allowed .ensures) ∙ not-false _ (c .before .before .before .before .before .before .before .before .before .before .if1 .left) in
-    let weekday = sym (c .before .before .before .before .before .before .before .before .before .weekday-allowed .ensures) ∙ not-false _ (c .before .before .before .before .before .before .before .before .if2 .left) in
-    let time = sym (c .before .before .before .before .before .before .before .time-allowed .ensures) ∙ not-false _ (c .before .before .before .before .before .before .if3 .left) in
+    let timed = c .before .before .before .before .before .before in
+    let status = sym (timed .before .before .before .before .before .status-allowed .ensures) ∙ not-false _ (timed .before .before .before .before .if1 .left) in
+    let weekday = sym (timed .before .before .before .weekday-allowed .ensures) ∙ not-false _ (timed .before .before .if2 .left) in
+    let time = sym (timed .before .time-allowed .ensures) ∙ not-false _ (timed .if3 .left) in
     let told = was-done _ _ _ (sym (c .before .before .before .before .before .day-number .ensures) ∙ ap dayAnswer (c .before .before .before .day .given .1)) in
     let right = eq-eqb _ _ (ap weekdayOf (told .1) ∙ sym (c .before .weekday .ensures) ∙ c .if4 .left) in
-    rw (date-decides _ _ _ (c .before .before .before .before .before .before .before .before .before .before .before .before .args .date) _ status weekday time, told .0, right)
+    rw (date-decides _ _ _ (timed .before .before .before .before .before .before .args .date) _ status weekday time, told .0, right)
 
 pub dated-refusal-spec : {M : Type 1} → statement M
 dated-refusal-spec =

@@ -16,7 +16,9 @@ returns-2 c = rw (eq-eqb _ _ (c .before .before .if1 .left), ne-eqb _ _ (c .if2 
 
 returns-3 : tie.Need-returns-3
 unfolding sixtyBehind59
-returns-3 c = rw (eq-eqb _ _ (c .before .before .before .if1 .left), eq-eqb _ _ (c .before .if2 .left)) (sym (hour-decides (c .before .before .before .before .before .args .time) (c .before .if2 .left)))
+returns-3 c =
+    let minute = c .before .if2 .left in
+    rw (eq-eqb _ _ (c .before .before .before .if1 .left), eq-eqb _ _ minute) (sym (hour-decides (c .before .before .before .before .before .args .time) minute))
 
 pub behind-59-spec : {M : Type 1} → statement M
 behind-59-spec = tie.close (tie.spec returns returns-2 returns-3)

@@ -20,12 +20,14 @@ returns-2 c = rw (eq-eqb _ _ (c .before .before .if1 .left ∙ c .before .before
 returns-3 : tie.Need-returns-3
 unfolding endsInLocal
 returns-3 c =
-    rw (eq-eqb _ _ (c .before .before .before .before .if1 .left ∙ c .before .before .before .before .before .before .last-hour .ensures), eq-eqb _ _ (c .before .before .if2 .left), ne-eqb _ _ (c .if3 .taken))
+    let hour = c .before .before .before .before .if1 .left ∙ c .before .before .before .before .before .before .last-hour .ensures in
+    rw (eq-eqb _ _ hour, eq-eqb _ _ (c .before .before .if2 .left), ne-eqb _ _ (c .if3 .taken))
 
 returns-4 : tie.Need-returns-4
 unfolding endsInLocal
 returns-4 c =
-    rw (eq-eqb _ _ (c .before .before .before .before .before .if1 .left ∙ c .before .before .before .before .before .before .before .last-hour .ensures), eq-eqb _ _ (c .before .before .before .if2 .left), eq-eqb _ _ (c .before .if3 .left))
+    let hour = c .before .before .before .before .before .if1 .left ∙ c .before .before .before .before .before .before .before .last-hour .ensures in
+    rw (eq-eqb _ _ hour, eq-eqb _ _ (c .before .before .before .if2 .left), eq-eqb _ _ (c .before .if3 .left))
 
 pub ends-in-local-spec : {M : Type 1} → statement M
 ends-in-local-spec = tie.close (tie.spec last-hour-requires returns returns-2 returns-3 returns-4)

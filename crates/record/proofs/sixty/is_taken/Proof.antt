@@ -13,7 +13,9 @@ behind-59-requires c κs = search needs
 
 returns : tie.Need-returns
 unfolding sixtyByFields
-returns c = rw (← fields-say-the-same (c .before .before .args .status) (c .before .before .args .date) (c .before .before .args .time), sym (c .before .behind-59 .ensures) ∙ not-true _ (c .if1 .taken))
+returns c =
+    let args = c .before .before .args in
+    rw (← fields-say-the-same (args .status) (args .date) (args .time), sym (c .before .behind-59 .ensures) ∙ not-true _ (c .if1 .taken))
 
 days-in-month-requires : tie.Need-days-in-month-requires
 days-in-month-requires c κs = search needs
@@ -31,7 +33,9 @@ returns-2 : tie.Need-returns-2
 unfolding sixtyByFields
 returns-2 c =
     let month = month-told _ _ _ (sym (c .before .before .before .before .before .days-in-month .ensures) ∙ ap daysAnswer (c .before .before .before .days .given .1)) in
-    rw (← fields-say-the-same (c .before .before .before .before .before .before .before .before .args .status) (c .before .before .before .before .before .before .before .before .args .date) (c .before .before .before .before .before .before .before .before .args .time), sym (c .before .before .before .before .before .before .before .behind-59 .ensures) ∙ not-false _ (c .before .before .before .before .before .before .if1 .left), month .0, c .before .if2 .taken) (c .ends-in-utc .ensures)
+    let args = c .before .before .before .before .before .before .before .before .args in
+    let behind = sym (c .before .before .before .before .before .before .before .behind-59 .ensures) ∙ not-false _ (c .before .before .before .before .before .before .if1 .left) in
+    rw (← fields-say-the-same (args .status) (args .date) (args .time), behind, month .0, c .before .if2 .taken) (c .ends-in-utc .ensures)
 
 ends-in-local-requires : tie.Need-ends-in-local-requires
 ends-in-local-requires c κs = search needs
@@ -40,13 +44,17 @@ returns-3 : tie.Need-returns-3
 unfolding sixtyByFields
 returns-3 c =
     let month = month-refused _ _ _ (sym (c .before .before .days-in-month .ensures) ∙ ap daysAnswer (c .enum-told .given .1)) in
-    rw (← fields-say-the-same (c .before .before .before .before .before .args .status) (c .before .before .before .before .before .args .date) (c .before .before .before .before .before .args .time), sym (c .before .before .before .before .behind-59 .ensures) ∙ not-false _ (c .before .before .before .if1 .left), month)
+    let args = c .before .before .before .before .before .args in
+    let behind = sym (c .before .before .before .before .behind-59 .ensures) ∙ not-false _ (c .before .before .before .if1 .left) in
+    rw (← fields-say-the-same (args .status) (args .date) (args .time), behind, month)
 
 returns-4 : tie.Need-returns-4
 unfolding sixtyByFields
 returns-4 c =
     let month = month-told _ _ _ (sym (c .before .before .before .before .before .days-in-month .ensures) ∙ ap daysAnswer (c .before .before .before .days .given .1)) in
-    rw (← fields-say-the-same (c .before .before .before .before .before .before .before .before .args .status) (c .before .before .before .before .before .before .before .before .args .date) (c .before .before .before .before .before .before .before .before .args .time), sym (c .before .before .before .before .before .before .before .behind-59 .ensures) ∙ not-false _ (c .before .before .before .before .before .before .if1 .left), month .0, c .before .if2 .left) (c .ends-in-local .ensures)
+    let args = c .before .before .before .before .before .before .before .before .args in
+    let behind = sym (c .before .before .before .before .before .before .before .behind-59 .ensures) ∙ not-false _ (c .before .before .before .before .before .before .if1 .left) in
+    rw (← fields-say-the-same (args .status) (args .date) (args .time), behind, month .0, c .before .if2 .left) (c .ends-in-local .ensures)
 
 pub is-taken-spec : {M : Type 1} → statement M
 is-taken-spec =

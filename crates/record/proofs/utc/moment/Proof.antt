@@ -28,10 +28,15 @@ enum-known-second : tie.Need-enum-known-second
 enum-known-second c = search needs
 
 mul-as-marked : tie.Need-mul-as-marked
-mul-as-marked c = omega (arith, day-number-bound _ _ (sym (c .before .before .before .before .before .before .before .day-number .ensures) ∙ ap dayAnswer (c .before .before .before .before .before .day .given .1)))
+mul-as-marked c =
+    let day = sym (c .before .before .before .before .before .before .before .day-number .ensures) ∙ ap dayAnswer (c .before .before .before .before .before .day .given .1) in
+    omega (arith, day-number-bound _ _ day)
 
 add-as-marked : tie.Need-add-as-marked
-add-as-marked c = omega (arith, day-number-bound _ _ (sym (c .before .before .before .before .before .before .before .day-number .ensures) ∙ ap dayAnswer (c .before .before .before .before .before .day .given .1)), second-bound _ _ (sym (c .before .before .before .second-of-day .ensures) ∙ ap secondAnswer (c .before .second .given .1)))
+add-as-marked c =
+    let day = sym (c .before .before .before .before .before .before .before .day-number .ensures) ∙ ap dayAnswer (c .before .before .before .before .before .day .given .1) in
+    let second = sym (c .before .before .before .second-of-day .ensures) ∙ ap secondAnswer (c .before .second .given .1) in
+    omega (arith, day-number-bound _ _ day, second-bound _ _ second)
 
 as-marked-requires : tie.Need-as-marked-requires
 as-marked-requires c κs = search needs
@@ -42,11 +47,17 @@ returns c = rw (sym (c .before .before .before .day-number .ensures) ∙ ap dayA
 
 returns-2 : tie.Need-returns-2
 unfolding momentOf
-returns-2 c = rw (sym (c .before .before .before .before .before .before .before .day-number .ensures) ∙ ap dayAnswer (c .before .before .before .before .before .day .given .1), sym (c .before .before .before .second-of-day .ensures) ∙ ap secondAnswer (c .before .number2 .given .1))
+returns-2 c =
+    let day = sym (c .before .before .before .before .before .before .before .day-number .ensures) ∙ ap dayAnswer (c .before .before .before .before .before .day .given .1) in
+    let none = sym (c .before .before .before .second-of-day .ensures) ∙ ap secondAnswer (c .before .number2 .given .1) in
+    rw (day, none)
 
 returns-3 : tie.Need-returns-3
 unfolding momentOf
-returns-3 c = rw (sym (c .before .before .before .before .before .before .before .before .day-number .ensures) ∙ ap dayAnswer (c .before .before .before .before .before .before .day .given .1), sym (c .before .before .before .before .second-of-day .ensures) ∙ ap secondAnswer (c .before .before .second .given .1)) (ap done (c .as-marked .ensures))
+returns-3 c =
+    let day = sym (c .before .before .before .before .before .before .before .before .day-number .ensures) ∙ ap dayAnswer (c .before .before .before .before .before .before .day .given .1) in
+    let second = sym (c .before .before .before .before .second-of-day .ensures) ∙ ap secondAnswer (c .before .before .second .given .1) in
+    rw (day, second) (ap done (c .as-marked .ensures))
 
 pub moment-spec : {M : Type 1} → statement M
 moment-spec =
