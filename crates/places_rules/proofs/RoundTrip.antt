@@ -205,8 +205,10 @@ shown-gather (p ∷ row) [] base alone fits same size d c = absurd (omega arith)
 shown-gather (p ∷ row) (byte ∷ bytes) base alone fits same size d c =
     let a = both (apart p row) (distinct row) alone in
     let ds = every-parts p row byte bytes decimalHolds d in
-    let cs = every-parts p row byte bytes codeHolds c in
-    (shown-here p byte _ (ds .0) (cs .0) (kept p row byte bytes base (a .0) fits size), shown-gather row bytes (store p byte base) (a .1) (sound-parts p row fits .1) (omega arith) (length-store p byte base ∙ size) (ds .1) (cs .1))
+    let cs = every-parts p row byte bytes codeHolds c in (
+      shown-here p byte _ (ds .0) (cs .0) (kept p row byte bytes base (a .0) fits size),
+      shown-gather row bytes (store p byte base) (a .1) (sound-parts p row fits .1) (omega arith) (length-store p byte base ∙ size) (ds .1) (cs .1),
+    )
 
 pub held-gather : (row : List Place) (bytes : List ℕ) → distinct row ≡ true → sound row ≡ true → length bytes ≡ length row
     → every decimalHolds row bytes ≡ true → every codeHolds row bytes ≡ true → Held row (gather row bytes noDigits)

@@ -9,7 +9,8 @@ use lib.ListN.{length, drop, getD, set, drop-of-length-le}
 use lib.Seq.{drop-cons, set-getD}
 use Rattle.refusals.specs.Refusals.{lower}
 use Rattle.refusals.proofs.Laws.{lower-none, lower-assoc}
-use Rattle.places_rules.specs.Places.{Place, fixed, decimal, code, place, fixedHolds, decimalHolds, codeHolds, every, store, keptAt, gather, faultOf, rowFault, placeFault, slots, firstDecimal, firstCode, noDigits, foundIn}
+use Rattle.places_rules.specs.Places.{Place, fixed, decimal, code, place, fixedHolds, decimalHolds, codeHolds, every, store, keptAt}
+use Rattle.places_rules.specs.Places.{gather, faultOf, rowFault, placeFault, slots, firstDecimal, firstCode, noDigits, foundIn}
 use Rattle.places_rules.specs.declared.Found.{Found}
 
 -- what is found in the end, from what was found so far

@@ -98,7 +98,9 @@ module _ (asked : Asked) (bytes : List ℕ) where
       let count = 16 * high + low in
       let high-back : high % 16 ≡ count / 16 = omega (arith, shown .1 .0, shown .1 .1 .0) in
       let low-back : low % 16 ≡ count % 16 = omega (arith, shown .1 .0, shown .1 .1 .0) in
-      let text : bytes ≡ withCount asked count = made-again (delayed asked) bytes refl (delayed-sound asked) fitting ∙ ap₂ (λ h l. smallOf asked ∷ codeCharacter h ∷ codeCharacter l ∷ []) high-back low-back in
+      let text : bytes ≡ withCount asked count =
+      made-again (delayed asked) bytes refl (delayed-sound asked) fitting
+      ∙ ap₂ (λ h l. smallOf asked ∷ codeCharacter h ∷ codeCharacter l ∷ []) high-back low-back in
       inr (count, omega (arith, shown .1 .0, shown .1 .1 .0), text, refl)
 
 -- where that is so of each row, what is read by them is listed

@@ -68,8 +68,14 @@ pub by-none : (bytes : List ℕ) → ((asked : Asked) → getD bytes 0 0 ≡ cap
 unfolding requestOf
 by-none [] no-capital no-small = refl
 by-none (byte ∷ more) no-capital no-small =
-    simp
-    (ne-eqb _ _ (no-capital Time), ne-eqb _ _ (no-capital TimeAndDate), ne-eqb _ _ (no-capital UtcTimeAndDate), ne-eqb _ _ (no-small Time), ne-eqb _ _ (no-small TimeAndDate), ne-eqb _ _ (no-small UtcTimeAndDate))
+    simp (
+      ne-eqb _ _ (no-capital Time),
+      ne-eqb _ _ (no-capital TimeAndDate),
+      ne-eqb _ _ (no-capital UtcTimeAndDate),
+      ne-eqb _ _ (no-small Time),
+      ne-eqb _ _ (no-small TimeAndDate),
+      ne-eqb _ _ (no-small UtcTimeAndDate),
+    )
 
 pub empty : (bytes : List ℕ) → length bytes < 1 → noRequest ≡ requestOf bytes
 unfolding requestOf

@@ -16,7 +16,10 @@ code-character-requires : tie.Need-code-character-requires
 code-character-requires c κs = search needs
 
 returns-2 : tie.Need-returns-2
-returns-2 c = by-digit _ (λ p. c .code-character .result ≡ byteAt (c .before .before .before .args .digits .now) p) (c .code-character .ensures) (c .code-character .ensures) (c .before .before .if1 .left)
+returns-2 c =
+    let digits = c .before .before .before .args .digits .now in
+    let shown = c .code-character in
+    by-digit _ (λ p. shown .result ≡ byteAt digits p) (shown .ensures) (shown .ensures) (c .before .before .if1 .left)
 
 pub byte-at-spec : {M : Type 1} → statement M
 byte-at-spec =

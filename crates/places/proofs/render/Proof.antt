@@ -41,7 +41,8 @@ loop-again c =
     let inv = c .before .before .before .before .loop .inv in
     let at = c .before .before .before .before .loop .at in
     let room = ltb-true at (length (c .before .before .before .before .loop .out)) (c .before .before .if1 .taken) in
-    let next = laid-next (c .before .before .before .before .before .before .before .args .row .now) (c .before .before .before .before .before .before .before .args .digits .now) (c .before .before .before .before .before .before .before .args .out .now) at (c .before .before .before .loop-test .taken) (omega arith) in
+    let args = c .before .before .before .before .before .before .before .args in
+    let next = laid-next (args .row .now) (args .digits .now) (args .out .now) at (c .before .before .before .loop-test .taken) (omega arith) in
     (omega arith, simp length-set (inv .1), omega arith, ap₂ (λ o v. set o at v) (inv .3) (c .byte-at .ensures) ∙ next)
 
 same-length : tie.Need-same-length Inv-loop μ-loop

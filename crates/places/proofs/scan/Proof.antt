@@ -53,18 +53,25 @@ loop-less c = omega arith
 loop-again : tie.Need-loop-again Inv-loop μ-loop
 loop-again c =
     let l = c .before .before .before .before .before .before .loop in
-    let row = c .before .before .before .before .before .before .before .before .before .args .row .now in
+    let args = c .before .before .before .before .before .before .before .before .before .args in
+    let row = args .row .now in
     let so-far : Found = record { digits = l .digits; fault = l .fault } in
-    onward-step row (c .before .before .before .before .before .before .before .before .before .args .bytes .now) (l .at) so-far _ (c .before .before .before .before .before .loop-test .taken) (ltb-true _ _ (c .before .before .before .before .if1 .taken))
+    onward-step row (args .bytes .now) (l .at) so-far _ (c .before .before .before .before .before .loop-test .taken) (ltb-true _ _ (c .before .before .before .before .if1 .taken))
     (ap (set (l .digits) (getD row (l .at) 0 % slots)) (c .before .see .ensures .0))
     (c .lower .ensures ∙ ap (λ f. lower f (l .fault)) (c .before .see .ensures .1))
     ∙ l .inv
 
 returns : tie.Need-returns Inv-loop μ-loop
-returns c = sym (onward-bytes-end (c .before .before .before .before .before .args .row .now) (c .before .before .before .before .before .args .bytes .now) (c .before .before .loop .at) _ (ltb-false _ _ (c .if1 .left))) ∙ c .before .before .loop .inv
+returns c =
+    let l = c .before .before .loop in
+    let args = c .before .before .before .before .before .args in
+    sym (onward-bytes-end (args .row .now) (args .bytes .now) (l .at) _ (ltb-false _ _ (c .if1 .left))) ∙ l .inv
 
 returns-2 : tie.Need-returns-2 Inv-loop μ-loop
-returns-2 c = sym (onward-row-ends (c .before .before .before .before .args .row .now) (c .before .before .before .before .args .bytes .now) (c .before .loop .at) _ (c .loop-test .left)) ∙ c .before .loop .inv
+returns-2 c =
+    let l = c .before .loop in
+    let args = c .before .before .before .before .args in
+    sym (onward-row-ends (args .row .now) (args .bytes .now) (l .at) _ (c .loop-test .left)) ∙ l .inv
 
 pub scan-spec : {M : Type 1} → statement M
 scan-spec =

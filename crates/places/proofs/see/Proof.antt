@@ -48,7 +48,8 @@ returns-5 : tie.Need-returns-5
 returns-5 c =
     let fits = sym (c .before .is-capital .ensures) ∙ c .if5 .taken in
     let no-digit = sym (c .before .before .before .before .is-decimal .ensures) ∙ c .before .before .before .if3 .left in
-    rw (is-code _ (c .before .before .before .before .before .if1 .left) (c .before .before .if4 .left), no-digit, fits) (sym (capital-value (c .before .before .before .before .before .before .args .byte) fits), refl)
+    let code = is-code _ (c .before .before .before .before .before .if1 .left) (c .before .before .if4 .left) in
+    rw (code, no-digit, fits) (sym (capital-value (c .before .before .before .before .before .before .args .byte) fits), refl)
 
 returns-6 : tie.Need-returns-6
 unfolding codeValue

@@ -30,8 +30,9 @@ delay-requires c κs = search needs
 returns-3 : tie.Need-returns-3
 returns-3 c =
     let args = c .before .before .before .before .before .before .before .before .args in
+    let scanned = c .before .before .before .before in
     ap (λ wait. done (request (args .asked) wait)) (c .delay .ensures)
-    ∙ fitting (args .asked) (args .row .now) (args .bytes .now) _ (c .before .before .before .before .scan .ensures) (c .before .before .before .before .before .if1 .left) (c .before .before .if2 .left)
+    ∙ fitting (args .asked) (args .row .now) (args .bytes .now) _ (scanned .scan .ensures) (scanned .before .if1 .left) (c .before .before .if2 .left)
 
 pub by-row-spec : {M : Type 1} → statement M
 by-row-spec =

@@ -49,22 +49,34 @@ by-row-requires-6 : tie.Need-by-row-requires-6
 by-row-requires-6 c κs = search needs
 
 returns-2 : tie.Need-returns-2
-returns-2 c = c .by-row .ensures ∙ by-capital Time (c .before .before .before .before .before .before .args .bytes .now) (c .before .before .before .before .if1 .left) (c .before .before .match .keys1)
+returns-2 c =
+    let bytes = c .before .before .before .before .before .before .args .bytes .now in
+    c .by-row .ensures ∙ by-capital Time bytes (c .before .before .before .before .if1 .left) (c .before .before .match .keys1)
 
 returns-3 : tie.Need-returns-3
-returns-3 c = c .by-row2 .ensures ∙ by-capital TimeAndDate (c .before .before .before .before .before .before .args .bytes .now) (c .before .before .before .before .if1 .left) (c .before .before .match .keys2)
+returns-3 c =
+    let bytes = c .before .before .before .before .before .before .args .bytes .now in
+    c .by-row2 .ensures ∙ by-capital TimeAndDate bytes (c .before .before .before .before .if1 .left) (c .before .before .match .keys2)
 
 returns-4 : tie.Need-returns-4
-returns-4 c = c .by-row3 .ensures ∙ by-capital UtcTimeAndDate (c .before .before .before .before .before .before .args .bytes .now) (c .before .before .before .before .if1 .left) (c .before .before .match .keys3)
+returns-4 c =
+    let bytes = c .before .before .before .before .before .before .args .bytes .now in
+    c .by-row3 .ensures ∙ by-capital UtcTimeAndDate bytes (c .before .before .before .before .if1 .left) (c .before .before .match .keys3)
 
 returns-5 : tie.Need-returns-5
-returns-5 c = c .by-row4 .ensures ∙ by-small Time (c .before .before .before .before .before .before .args .bytes .now) (c .before .before .before .before .if1 .left) (c .before .before .match .keys4)
+returns-5 c =
+    let bytes = c .before .before .before .before .before .before .args .bytes .now in
+    c .by-row4 .ensures ∙ by-small Time bytes (c .before .before .before .before .if1 .left) (c .before .before .match .keys4)
 
 returns-6 : tie.Need-returns-6
-returns-6 c = c .by-row5 .ensures ∙ by-small TimeAndDate (c .before .before .before .before .before .before .args .bytes .now) (c .before .before .before .before .if1 .left) (c .before .before .match .keys5)
+returns-6 c =
+    let bytes = c .before .before .before .before .before .before .args .bytes .now in
+    c .by-row5 .ensures ∙ by-small TimeAndDate bytes (c .before .before .before .before .if1 .left) (c .before .before .match .keys5)
 
 returns-7 : tie.Need-returns-7
-returns-7 c = c .by-row6 .ensures ∙ by-small UtcTimeAndDate (c .before .before .before .before .before .before .args .bytes .now) (c .before .before .before .before .if1 .left) (c .before .before .match .keys6)
+returns-7 c =
+    let bytes = c .before .before .before .before .before .before .args .bytes .now in
+    c .by-row6 .ensures ∙ by-small UtcTimeAndDate bytes (c .before .before .before .before .if1 .left) (c .before .before .match .keys6)
 
 returns-8 : tie.Need-returns-8
 returns-8 c =
