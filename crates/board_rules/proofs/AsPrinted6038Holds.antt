@@ -4,7 +4,8 @@ use Rattle.refusals.specs.Refusals.{unless}
 use Rattle.board_rules.specs.Rates.{rateRow}
 use Rattle.board_rules.specs.Settings.{isOffered}
 use Rattle.board_rules.specs.Of6038.{parameterIn, switchesFor, byteFor}
-use Rattle.board_rules.specs.AsPrinted6038.{TheUnusedSwitchIsAsPrinted, TheWordLengthsAreAsPrinted, TheParitiesAreAsPrinted, OffOnIsRefused, TheStopBitsAreAsPrinted, TheBaudratesAreAsPrinted, Hex20Is9600, TheExampleIsAsPrinted, OthersAreNotOffered, The6038IsAsPrinted}
+use Rattle.board_rules.specs.AsPrinted6038.{TheUnusedSwitchIsAsPrinted, TheWordLengthsAreAsPrinted, TheParitiesAreAsPrinted, OffOnIsRefused, TheStopBitsAreAsPrinted}
+use Rattle.board_rules.specs.AsPrinted6038.{TheBaudratesAreAsPrinted, Hex20Is9600, TheExampleIsAsPrinted, OthersAreNotOffered, The6038IsAsPrinted}
 
 pub unused-switch-as-printed : TheUnusedSwitchIsAsPrinted
 unfolding unless rateRow isOffered parameterIn switchesFor byteFor

@@ -15,7 +15,8 @@ use Rattle.board_rules.specs.Switches.{switch, byteOf, withoutSwitch1}
 use Rattle.board_rules.specs.Rates.{rateRow}
 use Rattle.board_rules.specs.Settings.{isOffered}
 use Rattle.board_rules.specs.Of6038.{dataBitsIn, parityAt, parityIn, stopBitsIn, baudIn, settingWith, parameterIn, thirdFor, fourthFor, switchesFor, offered, byteFor}
-use Rattle.board_rules.specs.RoundTrip6038.{isOffOn, All256ReadOrRefused, Switch1IsReadAsNothing, Switch1IsWrittenOff, ReadingThenWritingClearsSwitch1, ASettingWrittenReadsBack, OffOnIsNeverWritten, ASettingNotOfferedIs16}
+use Rattle.board_rules.specs.RoundTrip6038.{isOffOn, All256ReadOrRefused, Switch1IsReadAsNothing, Switch1IsWrittenOff}
+use Rattle.board_rules.specs.RoundTrip6038.{ReadingThenWritingClearsSwitch1, ASettingWrittenReadsBack, OffOnIsNeverWritten, ASettingNotOfferedIs16}
 use Rattle.board_rules.proofs.SwitchLaws.{is-on, byte-fits}
 use Rattle.board_rules.proofs.RateLaws.{rate-back}
 use Rattle.board_rules.proofs.SettingLaws.{same, same-true, by-the-other, offered-parts, was-offered}

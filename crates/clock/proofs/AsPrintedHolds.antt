@@ -12,6 +12,8 @@ use Rattle.clock.specs.Stepping.{clockSecond, stepOf}
 use Rattle.clock.specs.AsPrinted.{StepsAreAsPrinted}
 
 pub as-printed : StepsAreAsPrinted
-unfolding unless isLeap monthLength monthInRange dateInRange dayExists dateRefusal monthStart dayOf dayNumber seek monthHolding dateAt isLastDay dayAfter timeInRange timeRefusal secondsOf secondOfDay isLastSecond timeAfter seasonShift toUtc momentOf sixtyBehind59 takesSixty upTo59 statusAllowed weekdayAllowed weekdayAgrees timeAllowed timeAloneAllowed timeAloneRefusal datedRefusal nextSecondOf clockSecond stepOf
+unfolding unless isLeap monthLength monthInRange dateInRange dayExists dateRefusal monthStart dayOf dayNumber seek monthHolding dateAt isLastDay
+    dayAfter timeInRange timeRefusal secondsOf secondOfDay isLastSecond timeAfter seasonShift toUtc momentOf sixtyBehind59 takesSixty upTo59
+    statusAllowed weekdayAllowed weekdayAgrees timeAllowed timeAloneAllowed timeAloneRefusal datedRefusal nextSecondOf clockSecond stepOf
 as-printed =
     (refl, (refl, (refl, (refl, (refl, (refl, (refl, (refl, (refl, (refl, (refl, tt)))))))))))

@@ -11,7 +11,8 @@ use record::rule::table_of_6021;
 ghost use mathlib.Core.Path.{_≡_};
 ghost use Prim.Native.Nat.{_+_, _*_, _%_, _≤_};
 ghost use Rattle.bits.specs.Bits.{bit};
-ghost use Rattle.layouts_rules.specs.Coding.{receptionAt, receptionNumber, statusIn6021, statusIn5500, statusIn, statusOut6021, statusOut5500, statusOut, weekdayIn, weekdayOut, hasFullYear, fullYear, yearIn, centuryOut, timeIn, dateIn, recordIn, digitsOut};
+ghost use Rattle.layouts_rules.specs.Coding.{receptionAt, receptionNumber, statusIn6021, statusIn5500, statusIn, statusOut6021, statusOut5500, statusOut};
+ghost use Rattle.layouts_rules.specs.Coding.{weekdayIn, weekdayOut, hasFullYear, fullYear, yearIn, centuryOut, timeIn, dateIn, recordIn, digitsOut};
 
 fn reception_at(bits: u8) -> Reception
     ensures { λ r. ⌜ r ≡ receptionAt bits ⌝ }

@@ -10,7 +10,9 @@ use Rattle.layouts_rules.specs.Coding.{statusIn6021, statusOut6021, stat
 use Rattle.layouts_rules.specs.AsPrinted.{TheTablesAreAsPrinted}
 
 pub as-printed : TheTablesAreAsPrinted
-unfolding unless isDecimal isCapital codeValue codeCharacter render isLeap monthLength monthInRange dateInRange dayExists monthStart dayOf timeInRange timeAllowed timeAloneAllowed timeAloneRefusal plainUtc tableCanSay statusAllowed weekdayAllowed weekdayAgrees datedRefusal placesOf layoutOf statusIn6021 statusOut6021 statusIn5500 statusOut5500
+unfolding unless isDecimal isCapital codeValue codeCharacter render isLeap monthLength monthInRange dateInRange dayExists
+    monthStart dayOf timeInRange timeAllowed timeAloneAllowed timeAloneRefusal plainUtc tableCanSay statusAllowed
+    weekdayAllowed weekdayAgrees datedRefusal placesOf layoutOf statusIn6021 statusOut6021 statusIn5500 statusOut5500
 as-printed =
     record {
       codesOf6021 = record { allStatuses = refl; allWeekdays = refl; read = refl; written = refl };

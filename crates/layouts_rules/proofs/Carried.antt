@@ -30,7 +30,8 @@ use Rattle.layouts_rules.specs.Layouts.{placesOf, ownLayout}
 use Rattle.layouts_rules.specs.Coding.{statusOut, weekdayOut, hasFullYear, centuryOut, number, recordIn, emptyBehind, digitsOut}
 use Rattle.layouts_rules.proofs.Bits.{century-small}
 use Rattle.layouts_rules.proofs.RowLaws.{limit, row-limit}
-use Rattle.layouts_rules.proofs.CodingLaws.{pair-back, tens-back, ones-back, status-small, weekday-small, status-back, weekday-back, status-code-back, weekday-code-back, year-back, year-low, century-back}
+use Rattle.layouts_rules.proofs.CodingLaws.{pair-back, tens-back, ones-back, status-small, weekday-small, status-back}
+use Rattle.layouts_rules.proofs.CodingLaws.{weekday-back, status-code-back, weekday-code-back, year-back, year-low, century-back}
 
 pub own-layout : (layout : Layout) (digits : List ℕ) → ownLayout (recordIn layout digits) ≡ layout
 own-layout (layouts.Dated layout) digits = refl
@@ -43,7 +44,11 @@ weekday-bound weekday e = dates.inside-both 1 weekday 7 e .1
 
 time-back : (time : Time) → rule.Within time
     → _≡_ {A = Time}
-    (record { hour = 10 * (time .hour / 10 % 16) + time .hour % 10 % 16; minute = 10 * (time .minute / 10 % 16) + time .minute % 10 % 16; second = 10 * (time .second / 10 % 16) + time .second % 10 % 16 })
+    (record {
+      hour = 10 * (time .hour / 10 % 16) + time .hour % 10 % 16;
+      minute = 10 * (time .minute / 10 % 16) + time .minute % 10 % 16;
+      second = 10 * (time .second / 10 % 16) + time .second % 10 % 16;
+    })
     time
 time-back time g i =
     record {

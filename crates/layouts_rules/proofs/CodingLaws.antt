@@ -12,7 +12,8 @@ use Rattle.record_rules.specs.declared.Reception.the-variants.{Crystal, Radio}
 use Rattle.record_rules.specs.declared.Status.{Status}
 use Rattle.record_rules.specs.Rule.{crystalOrRadio, tableCanSay, tableOf6021, statusAllowed}
 use Rattle.bits.specs.Bits.{bit}
-use Rattle.layouts_rules.specs.Coding.{b0, receptionAt, receptionNumber, isCrystal, statusIn6021, statusIn5500, statusOut6021, statusOut5500, statusIn, statusOut, weekdayIn, weekdayOut, turningYear, fullYear, hasFullYear, centuryOut, number}
+use Rattle.layouts_rules.specs.Coding.{b0, receptionAt, receptionNumber, isCrystal, statusIn6021, statusIn5500, statusOut6021, statusOut5500}
+use Rattle.layouts_rules.specs.Coding.{statusIn, statusOut, weekdayIn, weekdayOut, turningYear, fullYear, hasFullYear, centuryOut, number}
 use Rattle.layouts_rules.proofs.Bits.{bit-small, bit-back, number-back, reception-small, reception-back, reception-number-back, crystal-back, crystal-bit-back}
 
 -- two digits and their number

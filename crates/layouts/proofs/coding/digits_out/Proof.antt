@@ -20,7 +20,9 @@ weekday-out-requires : tie.Need-weekday-out-requires
 weekday-out-requires c κs = search needs
 
 cast-t23 : tie.Need-cast-t23
-cast-t23 c = omega (arith, c .before .before .before .before .before .before .before .before .before .before .before .before .century-out .ensures, century-small (c .before .before .before .before .before .before .before .before .before .before .before .before .before .before .rec .given .0 .0) (c .before .before .before .before .before .before .before .before .before .before .before .before .before .before .rec .given .0 .1 .1 .1 .0 .year))
+cast-t23 c =
+    let dated = c .before .before .before .before .before .before .before .before .before .before .before .before .before .before .rec .given .0 in
+    omega (arith, c .before .before .before .before .before .before .before .before .before .before .before .before .century-out .ensures, century-small (dated .0) (dated .1 .1 .1 .0 .year))
 
 cast-t25 : tie.Need-cast-t25
 cast-t25 c = search needs
@@ -36,8 +38,9 @@ enum-known-rec-2 c = search needs
 
 returns : tie.Need-returns
 returns c =
-    rw (c .before .before .before .before .before .before .before .before .before .before .before .before .before .status-out .ensures, c .before .before .before .before .before .before .before .before .before .before .before .before .weekday-out .ensures, c .before .before .before .before .before .before .before .before .before .before .before .before .before .before .century-out .ensures)
-    (ap digitsOut (sym (c .before .before .before .before .before .before .before .before .before .before .before .before .before .before .before .before .rec .given .1)))
+    let coded = c .before .before .before .before .before .before .before .before .before .before .before .before in
+    rw (coded .before .status-out .ensures, coded .weekday-out .ensures, coded .before .before .century-out .ensures)
+    (ap digitsOut (sym (coded .before .before .before .before .rec .given .1)))
 
 returns-2 : tie.Need-returns-2
 returns-2 c = ap digitsOut (sym (c .before .before .before .before .before .before .before .rec2 .given .1))

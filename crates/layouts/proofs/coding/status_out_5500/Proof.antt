@@ -40,7 +40,13 @@ add-result-3 c = search needs
 returns : tie.Need-returns
 unfolding statusOut5500
 returns c =
-    rw (c .before .before .before .bit .ensures .0, c .before .before .bit2 .ensures .0, c .before .bit3 .ensures .0, c .bit4 .ensures .0, c .before .before .before .before .reception-number .ensures .0)
+    rw (
+      c .before .before .before .bit .ensures .0,
+      c .before .before .bit2 .ensures .0,
+      c .before .bit3 .ensures .0,
+      c .bit4 .ensures .0,
+      c .before .before .before .before .reception-number .ensures .0,
+    )
 
 pub status-out-5500-spec : {M : Type 1} → statement M
 status-out-5500-spec =
