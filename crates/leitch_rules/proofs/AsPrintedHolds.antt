@@ -12,7 +12,9 @@ use Rattle.leitch_rules.specs.Writing.{replyBytes, written}
 use Rattle.leitch_rules.specs.AsPrinted.{TheReplyIsAsPrinted}
 
 pub as-printed : TheReplyIsAsPrinted
-unfolding unless isDecimal isCapital codeValue codeCharacter render isLeap monthLength monthInRange dateInRange dayExists dateRefusal monthStart dayOf daysOfMonths yearDay dayOfYear timeInRange replyRow statusListed weekdayListed allInRange weekdayAgrees fieldsRefusal dayAgrees dayRefusal carried replyRefusal replyOf replyBytes written
+unfolding unless isDecimal isCapital codeValue codeCharacter render isLeap monthLength monthInRange dateInRange dayExists
+    dateRefusal monthStart dayOf daysOfMonths yearDay dayOfYear timeInRange replyRow statusListed weekdayListed
+    allInRange weekdayAgrees fieldsRefusal dayAgrees dayRefusal carried replyRefusal replyOf replyBytes written
 as-printed =
     record {
       numbered = refl;

@@ -67,8 +67,11 @@ module _ (reply : Reply) (fields : fieldsRefusal reply ≡ 0) (day : dayRefusal 
   reply-fits : rowFault replyRow (replyBytes reply) ≡ 0
   unfolding replyBytes
   reply-fits =
-      rw
-      (fixed-rendered replyRow (digitsOut reply), decimals-rendered replyRow (digitsOut reply) (digits-held reply (good reply fields) (day-small reply fields day) .each), codes-rendered replyRow (digitsOut reply))
+      rw (
+        fixed-rendered replyRow (digitsOut reply),
+        decimals-rendered replyRow (digitsOut reply) (digits-held reply (good reply fields) (day-small reply fields day) .each),
+        codes-rendered replyRow (digitsOut reply),
+      )
 
   reads-as-itself : replyOf (replyBytes reply) ≡ done reply
   unfolding replyOf replyRefusal

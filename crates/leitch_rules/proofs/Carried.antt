@@ -9,7 +9,7 @@ use lib.Dec.{ltb}
 use lib.ListN.{getD, replicate}
 use lib.Seq.{getD-drop}
 use borrow.Author.Tests.{ltb-true, ltb-false}
-use Rattle.refusals.proofs.Tables.{allBelow, below}
+use Rattle.refusals.proofs.Tables.{_also_, allBelow, below}
 use Rattle.places_rules.specs.Places.{Place, fixed, decimal, code, isDecimal, isCapital, codeValue, codeCharacter, byteAt, render}
 use Rattle.places_rules.proofs.Characters.{is-decimal, is-capital, value-of-character, code-back, code-small}
 use Rattle.places_rules.proofs.Rows.{usedIn, most, allShown, Held}
@@ -129,10 +129,6 @@ sameAt a b (code slot) = getD a slot 0 ≡ getD b slot 0
 abbrev AllSame : List ℕ → List ℕ → List Place → Type 0
 AllSame a b [] = Unit {0}
 AllSame a b (p ∷ row) = sameAt a b p × AllSame a b row
-
-infixr 5 _also_
-pub _also_ : {A B : Type 0} → A → B → A × B
-_also_ a b = (a, b)
 
 same-byte : (a b : List ℕ) (p : Place) → sameAt a b p → byteAt a p ≡ byteAt b p
 same-byte a b (fixed character) e = refl

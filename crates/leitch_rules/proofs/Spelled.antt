@@ -6,6 +6,7 @@ use Prim.Native.Nat.{ℕ, _+_, _/_, _%_, _≤_}
 use native.Mathlib.Omega.{arith}
 use borrow.Author.Tests.{le-leb}
 use Rattle.refusals.specs.Refusals.{done}
+use Rattle.refusals.proofs.Tables.{_also_}
 use Rattle.places_rules.specs.Places.{codeCharacter, render}
 use Rattle.places_rules.proofs.Characters.{low-character, code-back}
 use Rattle.leitch_rules.specs.declared.Reply.{Reply}
@@ -15,7 +16,7 @@ use Rattle.leitch_rules.specs.Reading.{replyOf}
 use Rattle.leitch_rules.specs.Writing.{replyBytes}
 use Rattle.leitch_rules.specs.AsPrinted.{printed, asPrinted, listedIn, EachListed, EveryReplyIsAsPrinted}
 use Rattle.leitch_rules.proofs.RuleLaws.{Good, good, time-good, date-good, day-of-month, weekday-1-to-7}
-use Rattle.leitch_rules.proofs.Carried.{four-bits, listed-fits, _also_}
+use Rattle.leitch_rules.proofs.Carried.{four-bits, listed-fits}
 use Rattle.leitch_rules.proofs.BackAndForth.{days-of-a-year, Accepted, accepted}
 
 -- a digit's character

@@ -1,6 +1,7 @@
 -- What documents 01 and 02 say of records in numbers holds, computed from the definitions. Assumes nothing.
 use mathlib.Core.Path.{refl}
 use Rattle.refusals.specs.Refusals.{unless}
+use Rattle.refusals.proofs.Tables.{_also_}
 use Rattle.calendar_rules.specs.Calendar.{isLeap, monthLength, monthInRange, dateInRange, dayExists, dateRefusal, monthStart, dayOf, dayNumber, seek, monthHolding, dateAt, dayAfter, isLastDay}
 use Rattle.calendar_rules.specs.TimeOfDay.{timeInRange, timeRefusal, secondsOf, secondOfDay, timeAfter, isLastSecond}
 use Rattle.record_rules.specs.Season.{seasonShift, toUtc}
@@ -12,11 +13,19 @@ use Rattle.record_rules.specs.Utc.{numberedAs}
 use Rattle.record_rules.specs.AsPrinted.{RecordsAreAsPrinted, SixtiesAreAsPrinted}
 
 pub as-printed : RecordsAreAsPrinted
-unfolding unless numberedAs momentOf dateRefusal dayNumber secondOfDay timeAllowed timeAloneAllowed timeAloneRefusal isLeap monthLength monthInRange dateInRange dayExists monthStart dayOf timeInRange timeRefusal secondsOf plainUtc tableCanSay statusAllowed weekdayAllowed weekdayAgrees datedRefusal seasonShift toUtc
+unfolding unless numberedAs momentOf dateRefusal dayNumber secondOfDay timeAllowed timeAloneAllowed
+    timeAloneRefusal isLeap monthLength monthInRange dateInRange dayExists monthStart dayOf timeInRange timeRefusal
+    secondsOf plainUtc tableCanSay statusAllowed weekdayAllowed weekdayAgrees datedRefusal seasonShift toUtc
 as-printed =
-    (refl, (refl, (refl, (refl, (refl, (refl, (refl, (refl, (refl, (refl, (refl, (refl, (refl, (refl, (refl, (refl, (refl, (refl, (refl, (refl, (refl, (refl, (refl, (refl, (refl, (refl, (refl, tt)))))))))))))))))))))))))))
+    refl also refl also refl also refl also refl also refl also refl also refl also refl also refl also refl also refl
+    also refl also refl also refl also refl also refl also refl also refl also refl also refl also refl also refl also refl
+    also refl also refl also refl also tt
 
 pub sixties-as-printed : SixtiesAreAsPrinted
-unfolding unless numberedAs momentOf dateRefusal dayNumber secondOfDay timeAllowed timeAloneAllowed timeAloneRefusal isLeap monthLength monthInRange dateInRange dayExists monthStart dayOf timeInRange timeRefusal secondsOf plainUtc tableCanSay statusAllowed weekdayAllowed weekdayAgrees datedRefusal seasonShift toUtc sixtyBehind59 takesSixty upTo59 seek monthHolding dateAt dayAfter isLastDay timeAfter isLastSecond nextSecondOf
+unfolding unless numberedAs momentOf dateRefusal dayNumber secondOfDay timeAllowed timeAloneAllowed timeAloneRefusal isLeap monthLength monthInRange
+    dateInRange dayExists monthStart dayOf timeInRange timeRefusal secondsOf plainUtc tableCanSay statusAllowed weekdayAllowed weekdayAgrees
+    datedRefusal seasonShift toUtc sixtyBehind59 takesSixty upTo59 seek monthHolding dateAt dayAfter isLastDay timeAfter isLastSecond nextSecondOf
 sixties-as-printed =
-    (refl, (refl, (refl, (refl, (refl, (refl, (refl, (refl, (refl, (refl, (refl, (refl, (refl, (refl, (refl, (refl, (refl, (refl, (refl, (refl, (refl, (refl, (refl, (refl, (refl, (refl, (refl, (refl, (refl, (refl, (refl, tt)))))))))))))))))))))))))))))))
+    refl also refl also refl also refl also refl also refl also refl also refl also refl also refl also refl also refl
+    also refl also refl also refl also refl also refl also refl also refl also refl also refl also refl also refl also refl
+    also refl also refl also refl also refl also refl also refl also refl also tt

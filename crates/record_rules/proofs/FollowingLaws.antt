@@ -29,7 +29,8 @@ use Rattle.record_rules.specs.Sixty.{isSixty, at59, endsUtcMonth, takesS
 use Rattle.record_rules.specs.Rule.{statusAllowed, weekdayAllowed, refusalOf, is60}
 use Rattle.record_rules.specs.Next.{weekdayAfter, recordAfter, isLastOfCalendar, nextSecondOf}
 use Rattle.record_rules.specs.Utc.{countOf, utcSeconds}
-use Rattle.record_rules.specs.Following.{with59, timeOf, ASixtyIsAcceptedExactlyThen, ASixtyGoesTo00, TheSameRecordWith59Decides, secondsOn, ASixtySharesItsFollowersNumber, OneSixtyHasNoFollower, WithoutAFollowerItHasNoNumber, NoCountIsBehindTheCalendar}
+use Rattle.record_rules.specs.Following.{with59, timeOf, ASixtyIsAcceptedExactlyThen, ASixtyGoesTo00, TheSameRecordWith59Decides, secondsOn}
+use Rattle.record_rules.specs.Following.{ASixtySharesItsFollowersNumber, OneSixtyHasNoFollower, WithoutAFollowerItHasNoNumber, NoCountIsBehindTheCalendar}
 use Rattle.record_rules.proofs.SixtyLaws.{same, behind-means, good-at-59, last-of-day, last-date, last-number, takes, sixty-means, marked-or-local}
 use Rattle.record_rules.proofs.RuleLaws.{good, not-refused, good-up-to-59, range-allowed, range-alone, taken-allowed, sixty-taken, alone-sixty}
 use Rattle.record_rules.proofs.NextLaws.{followed, next-good}

@@ -1,4 +1,5 @@
--- A rule for small numbers, shown at all of them by one test that antt computes. Assumes nothing.
+-- The rows of a table, one behind another; and a rule for small numbers, shown at all of them by one test that antt computes.
+-- Assumes nothing.
 use mathlib.Core.Path.{_≡_, refl, ap, _∙_}
 use mathlib.Core.Bool.{Bool, true, false, _&&_}
 use Prim.Native.Nat.{ℕ, zero, suc, _<_}
@@ -6,6 +7,11 @@ use native.Mathlib.Omega.{arith}
 use lib.Dec.{eqb}
 use borrow.Author.Tests.{eqb-true, eqb-false}
 use Rattle.refusals.proofs.Laws.{both}
+
+-- proofs of a table's rows side by side, without a bracket for each
+infixr 5 _also_
+pub _also_ : {A B : Type 0} → A → B → A × B
+_also_ a b = (a, b)
 
 -- the test passes at every number below n
 abbrev pub allBelow : ℕ → (ℕ → Bool) → Bool
