@@ -16,6 +16,9 @@ use Rattle.board_rules.specs.Of6036.{parameterIn}
 use Rattle.demands.specs.Boundary.{TheBoundaryTableHolds}
 
 pub boundary-table : TheBoundaryTableHolds
-unfolding unless numberedAs momentOf sixtyBehind59 takesSixty dayNumber secondOfDay dateRefusal timeRefusal isDecimal isCapital codeValue isLeap monthLength monthInRange dateInRange dayExists monthStart dayOf timeInRange timeAllowed timeAloneAllowed timeAloneRefusal secondsOf plainUtc tableCanSay statusAllowed weekdayAllowed weekdayAgrees datedRefusal seasonShift toUtc placesOf layoutOf statusIn6021 statusIn5500 carried bodyRefusal readIn parameterIn
+unfolding unless numberedAs momentOf sixtyBehind59 takesSixty dayNumber secondOfDay dateRefusal timeRefusal isDecimal
+    isCapital codeValue isLeap monthLength monthInRange dateInRange dayExists monthStart dayOf timeInRange timeAllowed
+    timeAloneAllowed timeAloneRefusal secondsOf plainUtc tableCanSay statusAllowed weekdayAllowed weekdayAgrees
+    datedRefusal seasonShift toUtc placesOf layoutOf statusIn6021 statusIn5500 carried bodyRefusal readIn parameterIn
 boundary-table =
     ((refl, refl), ((refl, refl), ((refl, refl), ((refl, refl), ((refl, refl), ((refl, refl), ((refl, refl), ((refl, refl), ((refl, refl), ((refl, refl), ((refl, refl), (refl, (refl, tt)))))))))))))

@@ -44,7 +44,9 @@ use Rattle.board_rules.specs.RoundTrip6038.{isOffOn}
 use Rattle.demands.specs.Lengths.{sevenLayouts, lengthOf}
 use Rattle.demands.specs.Numbers.{_givenWhen_, firstOf, among, _refusedBy_, _byFirst_}
 use Rattle.demands.specs.Rules.{placeRules, dateRules, recordRules, rulesIn, readingRules, nextSecondRules, writingRules, countRules, utcRules, stepRules}
-use Rattle.demands.specs.Demand1.{ReadingRefuses, TheLayoutRefuses, ScanningRefuses, WritingRefuses, WritingOneMoreRefuses, TheFirstRefusalEndsIt, TheRuleRefuses, TheNextSecondRefuses, CountingRefuses, TheSeasonShiftRefuses, UtcSecondsRefuse, TheStepRefuses, TheParameterByteRefuses, TheParameterByteOfA6038Refuses, TheCalendarRefuses, ARefusedTelegramChangesNoByte, ARefusedOneMoreChangesNoByte, ARefusedClockComesBackUnchanged}
+use Rattle.demands.specs.Demand1.{ReadingRefuses, TheLayoutRefuses, ScanningRefuses, WritingRefuses, WritingOneMoreRefuses, TheFirstRefusalEndsIt, TheRuleRefuses}
+use Rattle.demands.specs.Demand1.{TheNextSecondRefuses, CountingRefuses, TheSeasonShiftRefuses, UtcSecondsRefuse, TheStepRefuses, TheParameterByteRefuses}
+use Rattle.demands.specs.Demand1.{TheParameterByteOfA6038Refuses, TheCalendarRefuses, ARefusedTelegramChangesNoByte, ARefusedOneMoreChangesNoByte, ARefusedClockComesBackUnchanged}
 use Rattle.demands.proofs.Refusing.{else-nothing, by-lowest, unless-by, tested, refuses, gives}
 use Rattle.demands.proofs.TableLengths.{found}
 use Rattle.demands.proofs.RulesHold.{record-rules, next-second-rules, reading-rules, writing-rules, count-rules, utc-rules, step-rules}

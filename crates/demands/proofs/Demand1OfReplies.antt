@@ -23,7 +23,8 @@ use Rattle.requests.specs.declared.Asked.the-variants.{Time, TimeAndDate, UtcTi
 use Rattle.requests.specs.Requests.{capitalOf, smallOf, alone, delayed, requestRows, fits, delayOf, request, requestIn, requestOf}
 use Rattle.demands.specs.Numbers.{Rule, _givenWhen_, firstOf, _byFirst_}
 use Rattle.demands.specs.Rules.{placeRules, dateRules}
-use Rattle.demands.specs.Demand1OfReplies.{fieldRules, dayRules, replyRules, replyWritingRules, isHexDigit, isRequest, requestRules, inAReply, ReadingAReplyRefuses, WritingAReplyRefuses, ReadingARequestRefuses, TheDayOfTheYearRefuses, ARefusedReplyChangesNoByte}
+use Rattle.demands.specs.Demand1OfReplies.{fieldRules, dayRules, replyRules, replyWritingRules, isHexDigit, isRequest, requestRules, inAReply}
+use Rattle.demands.specs.Demand1OfReplies.{ReadingAReplyRefuses, WritingAReplyRefuses, ReadingARequestRefuses, TheDayOfTheYearRefuses, ARefusedReplyChangesNoByte}
 use Rattle.demands.proofs.Refusing.{else-nothing, first-is-lowest, first-of-both, unless-by, refuses}
 use Rattle.demands.proofs.Demand1Holds.{demand-1-scanning}
 
@@ -121,19 +122,40 @@ one-of-three x y z false = rw (and-false x, and-false y, and-false z, and-false 
 
 neither : (bytes : List ℕ) → (length bytes ≡ 1 → ⊥) → (length bytes ≡ 3 → ⊥) → anyFits requestRows bytes ≡ false
 neither bytes not-1 not-3 =
-    rw (other-length (alone Time) bytes not-1, other-length (alone TimeAndDate) bytes not-1, other-length (alone UtcTimeAndDate) bytes not-1, other-length (delayed Time) bytes not-3, other-length (delayed TimeAndDate) bytes not-3, other-length (delayed UtcTimeAndDate) bytes not-3)
+    rw (
+      other-length (alone Time) bytes not-1,
+      other-length (alone TimeAndDate) bytes not-1,
+      other-length (alone UtcTimeAndDate) bytes not-1,
+      other-length (delayed Time) bytes not-3,
+      other-length (delayed TimeAndDate) bytes not-3,
+      other-length (delayed UtcTimeAndDate) bytes not-3,
+    )
 
 fits-listed : (bytes : List ℕ) → anyFits requestRows bytes ≡ isRequest bytes
 fits-listed [] = refl
 fits-listed (letter ∷ []) =
     let other : _≡_ {A = ℕ} 1 3 → ⊥ = omega arith in
     let one = letter ∷ [] in
-    rw (fits-alone Time letter, fits-alone TimeAndDate letter, fits-alone UtcTimeAndDate letter, other-length (delayed Time) one other, other-length (delayed TimeAndDate) one other, other-length (delayed UtcTimeAndDate) one other)
+    rw (
+      fits-alone Time letter,
+      fits-alone TimeAndDate letter,
+      fits-alone UtcTimeAndDate letter,
+      other-length (delayed Time) one other,
+      other-length (delayed TimeAndDate) one other,
+      other-length (delayed UtcTimeAndDate) one other,
+    )
 fits-listed (letter ∷ byte ∷ []) = neither (letter ∷ byte ∷ []) (omega arith) (omega arith)
 fits-listed (letter ∷ high ∷ low ∷ []) =
     let other : _≡_ {A = ℕ} 3 1 → ⊥ = omega arith in
     let three = letter ∷ high ∷ low ∷ [] in
-    rw (other-length (alone Time) three other, other-length (alone TimeAndDate) three other, other-length (alone UtcTimeAndDate) three other, fits-delayed Time letter high low, fits-delayed TimeAndDate letter high low, fits-delayed UtcTimeAndDate letter high low)
+    rw (
+      other-length (alone Time) three other,
+      other-length (alone TimeAndDate) three other,
+      other-length (alone UtcTimeAndDate) three other,
+      fits-delayed Time letter high low,
+      fits-delayed TimeAndDate letter high low,
+      fits-delayed UtcTimeAndDate letter high low,
+    )
     (one-of-three (eqb letter (smallOf Time)) (eqb letter (smallOf TimeAndDate)) (eqb letter (smallOf UtcTimeAndDate)) (isHexDigit high && isHexDigit low))
 fits-listed (letter ∷ high ∷ low ∷ byte ∷ more) = neither (letter ∷ high ∷ low ∷ byte ∷ more) (omega arith) (omega arith)
 

@@ -164,10 +164,12 @@ unfolding passing feedReaderAt
 passes zero reader piece size well = (refl, tt)
 passes (suc room) reader piece size well =
     let feeding = feedOf (lineOf reader) piece in
-    let next = good-feed (lineOf reader) piece (good-line reader size well) in
+    let fine = good-line reader size well in
+    let next = good-feed (lineOf reader) piece fine in
+    let rest = drop (feeding .taken) piece in
     rw well
-    (passes-on (feeding .told) (feeding .at) (fedFor feeding) (passing room (readerOf (feeding .line)) (drop (feeding .taken) piece)) (piece-tells (lineOf reader) piece (good-line reader size well .started))
-    (passes room (readerOf (feeding .line)) (drop (feeding .taken) piece) (held-size (feeding .line) next) (reader-of-good (feeding .line) next)))
+    (passes-on (feeding .told) (feeding .at) (fedFor feeding) (passing room (readerOf (feeding .line)) rest) (piece-tells (lineOf reader) piece (fine .started))
+    (passes room (readerOf (feeding .line)) rest (held-size (feeding .line) next) (reader-of-good (feeding .line) next)))
 
 pub demand-1-using-up : UsingUpRefuses
 demand-1-using-up reader piece room declared well = passes room reader piece (declared .0) well

@@ -26,7 +26,8 @@ use Rattle.listing_of_lines.proofs.PageLaws.{nothing-laid, refused-laid, page-r
 use Rattle.listing_of_lines.proofs.RoomLaws.{call-ends-by-room}
 use Rattle.demands.specs.Numbers.{_givenWhen_, _refusedBy_, _byFirst_}
 use Rattle.demands.specs.Rules.{recordRules}
-use Rattle.demands.specs.Demand1OfTheListing.{rowRules, roomRules, TheHeaderRefuses, TheStrayLineRefuses, ARowRefuses, ARowForRefuses, ListingRefuses, ARefusedRowChangesNoByte, ARefusedStateIsNotListed}
+use Rattle.demands.specs.Demand1OfTheListing.{rowRules, roomRules, TheHeaderRefuses, TheStrayLineRefuses, ARowRefuses}
+use Rattle.demands.specs.Demand1OfTheListing.{ARowForRefuses, ListingRefuses, ARefusedRowChangesNoByte, ARefusedStateIsNotListed}
 use Rattle.demands.proofs.Refusing.{else-nothing, by-lowest, unless-by, then-by, tested, refuses}
 use Rattle.demands.proofs.RulesHold.{record-rules}
 

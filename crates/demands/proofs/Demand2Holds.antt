@@ -30,7 +30,9 @@ use Rattle.telegram_rules.specs.Writing.{bodyBytes, telegramIn, as6021, recordT
 use Rattle.telegram_rules.proofs.WriteLaws.{telegram-made, was-made}
 use Rattle.telegram_rules.proofs.InOrder.{reads-back, accepted}
 use Rattle.telegram_rules.proofs.ReadsBack.{write-reads-back}
-use Rattle.demands.specs.Demand2.{Good, plain, advanced, ATelegramIsItsRow, ATelegramHasTheTablesLength, WrittenByTheTables, ReadByTheTables, TheReaderAcceptsExactlyWhatTheWriterCanMake, WhatIsWrittenReadsBack, WhatIsWrittenWithoutASettingReadsBack, WrittenWithAdvanceItReadsBackAsTheNextSecond, TheNextSecondIsOneLater, TheNextSecondOfADayIsOneLater, NeitherMakesASixty}
+use Rattle.demands.specs.Demand2.{Good, plain, advanced, ATelegramIsItsRow, ATelegramHasTheTablesLength, WrittenByTheTables, ReadByTheTables}
+use Rattle.demands.specs.Demand2.{TheReaderAcceptsExactlyWhatTheWriterCanMake, WhatIsWrittenReadsBack, WhatIsWrittenWithoutASettingReadsBack}
+use Rattle.demands.specs.Demand2.{WrittenWithAdvanceItReadsBackAsTheNextSecond, TheNextSecondIsOneLater, TheNextSecondOfADayIsOneLater, NeitherMakesASixty}
 use Rattle.demands.proofs.TableLengths.{telegram-length}
 
 pub demand-2-is-its-row : ATelegramIsItsRow

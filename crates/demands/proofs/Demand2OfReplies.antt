@@ -14,7 +14,8 @@ use Rattle.leitch_rules.specs.AsPrinted.{asPrinted}
 use Rattle.leitch_rules.proofs.BackAndForth.{written-reads-back, accepted, read-is-written}
 use Rattle.leitch_rules.proofs.Spelled.{every-as-printed}
 use Rattle.requests.proofs.ExactlyHolds.{capital-asks, small-asks, nothing-else, no-delay-is-longer}
-use Rattle.demands.specs.Demand2OfReplies.{GoodReply, RepliesAreWrittenAsPrinted, RepliesAreReadAsPrinted, TheReaderOfRepliesAcceptsExactlyWhatTheWriterCanMake, AWrittenReplyReadsBack, AReadReplyIsWritten, RequestsAreReadExactly}
+use Rattle.demands.specs.Demand2OfReplies.{GoodReply, RepliesAreWrittenAsPrinted, RepliesAreReadAsPrinted, TheReaderOfRepliesAcceptsExactlyWhatTheWriterCanMake}
+use Rattle.demands.specs.Demand2OfReplies.{AWrittenReplyReadsBack, AReadReplyIsWritten, RequestsAreReadExactly}
 
 -- a good reply is written, and its characters are the manual's
 module _ (reply : Reply) (good : GoodReply reply) where

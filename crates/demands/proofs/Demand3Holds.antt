@@ -16,7 +16,8 @@ use Rattle.line.proofs.CutLaws.{Splitting, feeding-splits, a-feeding-is}
 use Rattle.line.proofs.UsesUp.{using-up-splits, using-up-tells-the-line, using-up-is-such-a-feeding}
 use Rattle.line_rules.proofs.SentGives.{same-line-same-records}
 use Rattle.line.proofs.HandsBack.{exactly-those, true-stray, end-then}
-use Rattle.demands.specs.Demand3.{GoodTelegrams, NoStxAround, HandsBack, TheReaderHandsBackThatList, EveryCutCanBeUsedUp, UsingUpIsAFeedingToo, UsingUpHandsBackThatList, TwoListsThatDifferNeverMakeTheSameLine}
+use Rattle.demands.specs.Demand3.{GoodTelegrams, NoStxAround, HandsBack, TheReaderHandsBackThatList, EveryCutCanBeUsedUp}
+use Rattle.demands.specs.Demand3.{UsingUpIsAFeedingToo, UsingUpHandsBackThatList, TwoListsThatDifferNeverMakeTheSameLine}
 
 -- the two conditions, as the one test of the line's laws
 all-good : (sents : List Sent) (behind : List ℕ) → GoodTelegrams sents → NoStxAround sents behind → allGood sents behind ≡ true

@@ -24,7 +24,9 @@ use Rattle.line.proofs.LongerReadersHold.{the-end-cuts-off-up-to-38, the-rule-i
 use Rattle.line_rules.proofs.LongerTelegramsHold.{up-to-38-bytes-are-held, stx-cuts-off-up-to-38, ten-is-given-when-38-are-held, up-to-39-bytes-are-judged}
 use Rattle.takeover.specs.TakingOver.{keptPlaces, stateOf}
 use Rattle.takeover.specs.Sentences.{readerFor, lineKept}
-use Rattle.takeover.proofs.SentencesHold.{kept-good, the-old-bound-is-24, refuses-what-the-old-rule-refused, what-the-old-reader-left, a-refused-state-comes-back, more-held-is-15, taken-over-is-the-same, taken-over-is-well-formed, without-a-ten-nothing-differs, a-call-without-a-ten, the-end-is-the-same, without-a-ten-each-cut}
+use Rattle.takeover.proofs.SentencesHold.{kept-good, the-old-bound-is-24, refuses-what-the-old-rule-refused, what-the-old-reader-left}
+use Rattle.takeover.proofs.SentencesHold.{a-refused-state-comes-back, more-held-is-15, taken-over-is-the-same, taken-over-is-well-formed}
+use Rattle.takeover.proofs.SentencesHold.{without-a-ten-nothing-differs, a-call-without-a-ten, the-end-is-the-same, without-a-ten-each-cut}
 use Rattle.listing_of_lines.proofs.NumberLaws.{read-number}
 use Rattle.log_rules.proofs.BlockLaws.{none-accepted-is-longer, that-many-fit-a-slot}
 use Rattle.demands.specs.LongerTelegrams.{LongerThan25Is1, AtTheFirstTenItHolds25, LongerTelegramsAreAsAskedFor}
@@ -114,5 +116,26 @@ at-the-first-ten kept before byte size declared well none ten =
     }
 
 pub longer-telegrams : LongerTelegramsAreAsAskedFor
-longer-telegrams =
-    (up-to-39-bytes-are-judged, longer-than-25, up-to-38-bytes-are-held, stx-cuts-off-up-to-38, the-end-cuts-off-up-to-38, the-rule-is-the-one-at-38, ten-is-given-when-38-are-held, none-accepted-is-longer, that-many-fit-a-slot, the-old-bound-is-24, taken-over-is-the-same, taken-over-is-well-formed, refuses-what-the-old-rule-refused, what-the-old-reader-left, a-refused-state-comes-back, more-held-is-15, without-a-ten-nothing-differs, a-call-without-a-ten, the-end-is-the-same, without-a-ten-each-cut, at-the-first-ten)
+longer-telegrams = (
+  up-to-39-bytes-are-judged,
+  longer-than-25,
+  up-to-38-bytes-are-held,
+  stx-cuts-off-up-to-38,
+  the-end-cuts-off-up-to-38,
+  the-rule-is-the-one-at-38,
+  ten-is-given-when-38-are-held,
+  none-accepted-is-longer,
+  that-many-fit-a-slot,
+  the-old-bound-is-24,
+  taken-over-is-the-same,
+  taken-over-is-well-formed,
+  refuses-what-the-old-rule-refused,
+  what-the-old-reader-left,
+  a-refused-state-comes-back,
+  more-held-is-15,
+  without-a-ten-nothing-differs,
+  a-call-without-a-ten,
+  the-end-is-the-same,
+  without-a-ten-each-cut,
+  at-the-first-ten,
+)

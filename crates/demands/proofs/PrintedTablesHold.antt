@@ -21,5 +21,28 @@ use Rattle.demands.specs.PrintedTables.{AllIsAsPrinted}
 use Rattle.demands.proofs.BoundaryHolds.{boundary-table}
 
 pub all-is-as-printed : AllIsAsPrinted
-all-is-as-printed =
-    (layouts.as-printed, records.as-printed, calendar.month-starts-as-printed, calendar.calendar-as-printed, clock.as-printed, board.of-6036-as-printed, listing.listing-as-printed, pages.as-printed, boundary-table, calendar.days-of-the-year-as-printed, leitch.as-printed, every-as-printed, requests.requests-as-printed, records.sixties-as-printed, last-as-printed, last-step-as-printed, log.log-as-printed, listing.log-as-printed, logpages.as-printed, telegram.as-printed, of-6038-as-printed, trailer.as-printed, orders-as-printed)
+all-is-as-printed = (
+  layouts.as-printed,
+  records.as-printed,
+  calendar.month-starts-as-printed,
+  calendar.calendar-as-printed,
+  clock.as-printed,
+  board.of-6036-as-printed,
+  listing.listing-as-printed,
+  pages.as-printed,
+  boundary-table,
+  calendar.days-of-the-year-as-printed,
+  leitch.as-printed,
+  every-as-printed,
+  requests.requests-as-printed,
+  records.sixties-as-printed,
+  last-as-printed,
+  last-step-as-printed,
+  log.log-as-printed,
+  listing.log-as-printed,
+  logpages.as-printed,
+  telegram.as-printed,
+  of-6038-as-printed,
+  trailer.as-printed,
+  orders-as-printed,
+)

@@ -45,7 +45,10 @@ use Rattle.demands.proofs.Refusing.{else-nothing, first-of-both, unless
 pub record-rules : (rec : Record) → refusalOf rec ≡ firstOf (recordRules rec)
 unfolding datedRefusal timeAllowed timeAloneAllowed timeAloneRefusal
 record-rules (Dated layout status weekday date time) =
-    ap (λ n. 5 when not (statusAllowed layout status && weekdayAllowed weekday) else 6 when not ((timeInRange time || takesSixty status date time) && dateInRange date) else 7 when not (dayExists date) else n)
+    ap (λ n. 5 when not (statusAllowed layout status && weekdayAllowed weekday)
+    else 6 when not ((timeInRange time || takesSixty status date time) && dateInRange date)
+    else 7 when not (dayExists date)
+    else n)
     (sym (else-nothing (8 when not (weekdayAgrees weekday date))))
 record-rules (TimeOnly layout time) = sym (else-nothing (6 when not (timeInRange time || sixtyBehind59 time)))
 

@@ -1,6 +1,7 @@
 -- Document 02, b, holds. Assumes nothing.
 use mathlib.Core.Path.{refl}
 use Rattle.refusals.specs.Refusals.{unless}
+use Rattle.refusals.proofs.Tables.{_also_}
 use Rattle.places_rules.specs.Places.{isDecimal, isCapital, codeValue}
 use Rattle.calendar_rules.specs.Calendar.{isLeap, monthLength, monthInRange, dateInRange, dayExists, dateRefusal, monthStart, dayOf, dayNumber, seek, monthHolding, dateAt}
 use Rattle.calendar_rules.specs.TimeOfDay.{timeInRange, timeRefusal, secondsOf, secondOfDay}
@@ -20,9 +21,13 @@ use Rattle.demands.specs.SecondSixty.{TheSixtyTelegramsAreRead, LeitchAn
 use Rattle.demands.proofs.Demand2Holds.{second-refused-is-not-advanced, neither-makes-a-sixty}
 
 sixty-telegrams : TheSixtyTelegramsAreRead
-unfolding unless momentOf sixtyBehind59 takesSixty dayNumber secondOfDay dateRefusal timeRefusal isDecimal isCapital codeValue isLeap monthLength monthInRange dateInRange dayExists monthStart dayOf timeInRange timeAllowed timeAloneAllowed timeAloneRefusal secondsOf plainUtc tableCanSay statusAllowed weekdayAllowed weekdayAgrees datedRefusal seasonShift toUtc placesOf layoutOf statusIn6021 statusIn5500 carried bodyRefusal readIn seek monthHolding dateAt
+unfolding unless momentOf sixtyBehind59 takesSixty dayNumber secondOfDay dateRefusal timeRefusal isDecimal isCapital
+    codeValue isLeap monthLength monthInRange dateInRange dayExists monthStart dayOf timeInRange timeAllowed
+    timeAloneAllowed timeAloneRefusal secondsOf plainUtc tableCanSay statusAllowed weekdayAllowed weekdayAgrees datedRefusal
+    seasonShift toUtc placesOf layoutOf statusIn6021 statusIn5500 carried bodyRefusal readIn seek monthHolding dateAt
 sixty-telegrams =
-    ((refl, refl), ((refl, refl), ((refl, refl), ((refl, refl), ((refl, refl), ((refl, refl), ((refl, refl), ((refl, refl), ((refl, refl), ((refl, refl), ((refl, refl), ((refl, refl), ((refl, refl), ((refl, refl), ((refl, refl), tt)))))))))))))))
+    (refl, refl) also (refl, refl) also (refl, refl) also (refl, refl) also (refl, refl) also (refl, refl) also (refl, refl) also (refl, refl)
+    also (refl, refl) also (refl, refl) also (refl, refl) also (refl, refl) also (refl, refl) also (refl, refl) also (refl, refl) also tt
 
 leitch-at-59 : LeitchAnswersStayAt59
 leitch-at-59 reply none = time-good reply (good reply none) .to-second
@@ -32,5 +37,19 @@ last-not-advanced order control layout status room marked fine =
     second-refused-is-not-advanced order control _ room (last-is-good layout status marked fine .1)
 
 pub second-sixty : SecondSixtyIsAsAskedFor
-second-sixty =
-    (sixty-telegrams, accepted-exactly, same-with-59-decides, fields-say-the-same, sixty-shares, one-without-follower, last-is-good, no-follower-no-number, counts-in-calendar, sixty-goes-to-00, last-sixty-gives-12, last-not-advanced, neither-makes-a-sixty, leitch-at-59)
+second-sixty = (
+  sixty-telegrams,
+  accepted-exactly,
+  same-with-59-decides,
+  fields-say-the-same,
+  sixty-shares,
+  one-without-follower,
+  last-is-good,
+  no-follower-no-number,
+  counts-in-calendar,
+  sixty-goes-to-00,
+  last-sixty-gives-12,
+  last-not-advanced,
+  neither-makes-a-sixty,
+  leitch-at-59,
+)

@@ -14,7 +14,8 @@ use Rattle.demands.specs.Demand2OfReplies.{GoodReply, WritesReplies, Rea
 use Rattle.demands.specs.WrongOfReplies.{refusingReplyReader, fixedReply, fixedReplyReader, idleReplyWriter}
 
 is-good : GoodReply fixedReply
-unfolding unless isLeap monthLength monthInRange dateInRange dayExists dateRefusal monthStart dayOf daysOfMonths yearDay dayOfYear timeInRange statusListed weekdayListed allInRange weekdayAgrees fieldsRefusal dayAgrees dayRefusal
+unfolding unless isLeap monthLength monthInRange dateInRange dayExists dateRefusal monthStart dayOf daysOfMonths yearDay
+    dayOfYear timeInRange statusListed weekdayListed allInRange weekdayAgrees fieldsRefusal dayAgrees dayRefusal
 is-good = (refl, refl)
 
 -- "a reader that refuses everything"

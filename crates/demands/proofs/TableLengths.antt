@@ -47,7 +47,8 @@ found bytes =
     by-length (eqb (length bytes) 16) (eqb (length bytes) 8) (eqb (length bytes) 18) (eqb (length bytes) 19) (eqb (length bytes) 23) (eqb (length bytes) 11)
   where
     by-length : (a b c d e f : Bool)
-        → cond a (done (layouts.Dated L6021)) (cond b (done (byTrailer bytes)) (cond c (done (layouts.Dated L2000)) (cond d (done (layouts.Dated L5500)) (cond e (done (layouts.Dated L5050)) (cond f (done (layouts.TimeOnly T5050)) (refused 1))))))
+        → cond a (done (layouts.Dated L6021)) (cond b (done (byTrailer bytes)) (cond c (done (layouts.Dated L2000))
+        (cond d (done (layouts.Dated L5500)) (cond e (done (layouts.Dated L5050)) (cond f (done (layouts.TimeOnly T5050)) (refused 1))))))
         byFirst 1 givenWhen not (a || (b || (c || (d || (b || (e || (f || false))))))) ∷ []
     by-length true b c d e f = refl
     by-length false true c d e f = refl

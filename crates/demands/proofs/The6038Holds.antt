@@ -39,7 +39,9 @@ use Rattle.log_rules.proofs.AddLaws.{own-refusal}
 use Rattle.demands.specs.ProgramsOfTheLog.{adds}
 use Rattle.demands.specs.Lengths.{sevenLayouts, lengthOf}
 use Rattle.demands.specs.Numbers.{_givenWhen_, among, firstOf, _byFirst_}
-use Rattle.demands.specs.The6038.{printedTrailer, exchangedTrailer, inFrame, OnlyTheTrailerIsExchanged, ASettingWithoutAnOrderIsAsPrinted, SeveralWithoutAnOrderAreAsPrinted, NotNamedIsAsPrinted, AnExchanged5500tIsAnAsPrinted6021t, ReadInTheOtherOrderItIsTheOther, InTwoOrdersTwoListsMakeTheSameLine, isAloneAtItsLength, TheOtherOrderIs3, isTrailer, NeitherOrderIs3, TheLogTakesAsPrintedOnly, TheLogTakesTheOtherForIt, TheReplyKeepsCrLf, The6038IsAsAskedFor}
+use Rattle.demands.specs.The6038.{printedTrailer, exchangedTrailer, inFrame, OnlyTheTrailerIsExchanged, ASettingWithoutAnOrderIsAsPrinted, SeveralWithoutAnOrderAreAsPrinted}
+use Rattle.demands.specs.The6038.{NotNamedIsAsPrinted, AnExchanged5500tIsAnAsPrinted6021t, ReadInTheOtherOrderItIsTheOther, InTwoOrdersTwoListsMakeTheSameLine, isAloneAtItsLength}
+use Rattle.demands.specs.The6038.{TheOtherOrderIs3, isTrailer, NeitherOrderIs3, TheLogTakesAsPrintedOnly, TheLogTakesTheOtherForIt, TheReplyKeepsCrLf, The6038IsAsAskedFor}
 use Rattle.demands.proofs.TableLengths.{found}
 
 -- each row ends in its trailer
@@ -261,5 +263,26 @@ unfolding replyBytes replyRow render
 keeps-cr-lf reply = (take 29 (replyBytes reply), refl)
 
 pub the-6038 : The6038IsAsAskedFor
-the-6038 =
-    (switch-1-read-as-nothing, switch-1-written-off, all-256-read-or-refused, off-on-never-written, write-then-read, read-then-write, not-offered-is-16, only-the-trailer, without-an-order, several-so, not-named, every-order-is-well-formed, the-order-stays, looks-like, read-as-the-other, same-line, other-is-3, neither-is-3, log-takes-printed, log-takes-the-other, keeps-cr-lf)
+the-6038 = (
+  switch-1-read-as-nothing,
+  switch-1-written-off,
+  all-256-read-or-refused,
+  off-on-never-written,
+  write-then-read,
+  read-then-write,
+  not-offered-is-16,
+  only-the-trailer,
+  without-an-order,
+  several-so,
+  not-named,
+  every-order-is-well-formed,
+  the-order-stays,
+  looks-like,
+  read-as-the-other,
+  same-line,
+  other-is-3,
+  neither-is-3,
+  log-takes-printed,
+  log-takes-the-other,
+  keeps-cr-lf,
+)

@@ -23,5 +23,24 @@ the-first-bad-block-is-named region whole =
     (verify-names-the-first-bad-block region .1 whole, verify-names-the-first-bad-block region .2 whole)
 
 pub the-log : TheLogIsAsAskedFor
-the-log =
-    (a-good-block-is-made-by-its-telegrams, a-good-block-has-512-bytes, a-zeroed-block-is-good-and-empty, the-sum-fits, one-reduction-is-enough, what-is-added-is-read-back, zero-tells, what-was-read-back-still-is, good-blocks-stay-good, no-other-byte-changes, verify-names-the-first-bad-block, an-add-goes-behind-the-last-used, that-place-is-taken, adds-fill-zeroed-blocks-in-order, noticed, a-block-spoils-no-other, no-such-place-is-refused, no-blocks-are-good-and-full, a-refused-add-leaves-the-region)
+the-log = (
+  a-good-block-is-made-by-its-telegrams,
+  a-good-block-has-512-bytes,
+  a-zeroed-block-is-good-and-empty,
+  the-sum-fits,
+  one-reduction-is-enough,
+  what-is-added-is-read-back,
+  zero-tells,
+  what-was-read-back-still-is,
+  good-blocks-stay-good,
+  no-other-byte-changes,
+  verify-names-the-first-bad-block,
+  an-add-goes-behind-the-last-used,
+  that-place-is-taken,
+  adds-fill-zeroed-blocks-in-order,
+  noticed,
+  a-block-spoils-no-other,
+  no-such-place-is-refused,
+  no-blocks-are-good-and-full,
+  a-refused-add-leaves-the-region,
+)

@@ -48,7 +48,9 @@ use Rattle.line_rules.proofs.SentLaws.{plain-body}
 use Rattle.demands.specs.Lengths.{lengthOf}
 use Rattle.demands.specs.Demand2.{Good}
 use Rattle.demands.specs.Demand3.{GoodTelegrams, NoStxAround, GivesBack, HandsBack}
-use Rattle.demands.specs.UnnamedWrites.{named, unnamedBefore, nextBefore, TheBytesOfBeforeBetweenStxAndEtx, BeforeAllBytesWereStray, TheLineReaderSeesIt, UnnamedMeans6021WithControlCharacters, ItHas18Bytes, TimeAloneIsStill14, TheRecordsOwnComesFirst, GoodDated, form6021, everyEighteen, SeveralFollow, Is6021, NamedBareDoesWhatUnnamedDid, SeveralNamedBareDoSo, NoChoiceMakesAnothersBare6021, UnnamedWritesAreAsAskedFor}
+use Rattle.demands.specs.UnnamedWrites.{named, unnamedBefore, nextBefore, TheBytesOfBeforeBetweenStxAndEtx, BeforeAllBytesWereStray, TheLineReaderSeesIt}
+use Rattle.demands.specs.UnnamedWrites.{UnnamedMeans6021WithControlCharacters, ItHas18Bytes, TimeAloneIsStill14, TheRecordsOwnComesFirst, GoodDated, form6021, everyEighteen}
+use Rattle.demands.specs.UnnamedWrites.{SeveralFollow, Is6021, NamedBareDoesWhatUnnamedDid, SeveralNamedBareDoSo, NoChoiceMakesAnothersBare6021, UnnamedWritesAreAsAskedFor}
 use Rattle.demands.proofs.TableLengths.{telegram-length}
 use Rattle.demands.proofs.RulesHold.{next-layout}
 use Rattle.demands.proofs.Demand2Holds.{made-itself}
@@ -279,6 +281,22 @@ no-choice choice order (Dated layout status weekday date time) fine other same =
 no-choice choice order (TimeOnly layout time) fine other same = let z : _≡_ {A = ℕ} 0 1 = cc in absurd (omega arith)
 
 pub unnamed-writes : UnnamedWritesAreAsAskedFor
-unfolding unless within codeCharacter render isLeap monthLength monthInRange dateInRange dayExists monthStart dayOf timeInRange timeAllowed statusAllowed weekdayAllowed weekdayAgrees datedRefusal placesOf statusOut6021 bodyBytes telegramFor
-unnamed-writes =
-    (between, was-stray _ demand-3-hands-back-that-list, was-stray _ demand-3-using-up-hands-back, sees-it _ demand-3-hands-back-that-list, sees-it _ demand-3-using-up-hands-back, means, has-18-bytes, time-alone, own-first, several-follow _ demand-3-hands-back-that-list, several-follow _ demand-3-using-up-hands-back, does-what-unnamed-did, several-do-so, no-choice, ((refl, refl), ((refl, refl), tt)))
+unfolding unless within codeCharacter render isLeap monthLength monthInRange dateInRange dayExists monthStart dayOf timeInRange
+    timeAllowed statusAllowed weekdayAllowed weekdayAgrees datedRefusal placesOf statusOut6021 bodyBytes telegramFor
+unnamed-writes = (
+  between,
+  was-stray _ demand-3-hands-back-that-list,
+  was-stray _ demand-3-using-up-hands-back,
+  sees-it _ demand-3-hands-back-that-list,
+  sees-it _ demand-3-using-up-hands-back,
+  means,
+  has-18-bytes,
+  time-alone,
+  own-first,
+  several-follow _ demand-3-hands-back-that-list,
+  several-follow _ demand-3-using-up-hands-back,
+  does-what-unnamed-did,
+  several-do-so,
+  no-choice,
+  ((refl, refl), ((refl, refl), tt)),
+)

@@ -17,7 +17,8 @@ use Rattle.record_rules.specs.declared.Record.the-variants.{Dated, TimeOnly}
 use Rattle.record_rules.specs.Literals.{standardTime, daylightTime, markedUtc}
 use Rattle.record_rules.specs.Rule.{statusAllowed}
 use Rattle.record_rules.specs.SixtyByFields.{TheFieldsSayTheSame}
-use Rattle.record_rules.specs.Following.{ASixtyIsAcceptedExactlyThen, TheSameRecordWith59Decides, ASixtyGoesTo00, ASixtySharesItsFollowersNumber, OneSixtyHasNoFollower, TheLastSixtyIsGoodAndNoneFollows, WithoutAFollowerItHasNoNumber, NoCountIsBehindTheCalendar}
+use Rattle.record_rules.specs.Following.{ASixtyIsAcceptedExactlyThen, TheSameRecordWith59Decides, ASixtyGoesTo00, ASixtySharesItsFollowersNumber}
+use Rattle.record_rules.specs.Following.{OneSixtyHasNoFollower, TheLastSixtyIsGoodAndNoneFollows, WithoutAFollowerItHasNoNumber, NoCountIsBehindTheCalendar}
 use Rattle.clock.specs.Running.{TheLastSixtyGives12}
 use Rattle.trailer_rules.specs.declared.Order.{Order}
 use Rattle.leitch_rules.specs.declared.Reply.{Reply}

@@ -18,7 +18,8 @@ use Rattle.record_rules.specs.declared.Record.the-variants.{TimeOnly}
 use Rattle.layouts_rules.specs.declared.Layout.{Layout}
 use Rattle.layouts_rules.specs.declared.Layout.the-variants as layouts
 use Rattle.layouts_rules.specs.Layouts.{ownLayout}
-use Rattle.board_rules.specs.RoundTrip6038.{All256ReadOrRefused, Switch1IsReadAsNothing, Switch1IsWrittenOff, ReadingThenWritingClearsSwitch1, ASettingWrittenReadsBack, OffOnIsNeverWritten, ASettingNotOfferedIs16}
+use Rattle.board_rules.specs.RoundTrip6038.{All256ReadOrRefused, Switch1IsReadAsNothing, Switch1IsWrittenOff, ReadingThenWritingClearsSwitch1}
+use Rattle.board_rules.specs.RoundTrip6038.{ASettingWrittenReadsBack, OffOnIsNeverWritten, ASettingNotOfferedIs16}
 use Rattle.trailer_rules.specs.declared.Order.{Order}
 use Rattle.trailer_rules.specs.declared.Order.the-variants.{AsPrinted, Exchanged}
 use Rattle.telegram_rules.specs.declared.write.Setting.{Setting}

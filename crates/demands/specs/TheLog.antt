@@ -10,9 +10,11 @@ use Rattle.log_rules.specs.declared.verify.Verified.{Verified}
 use Rattle.log_rules.specs.declared.verify.Verified.the-variants.{AllGood, Bad}
 use Rattle.log_rules.specs.Good.{readsWell, isGood}
 use Rattle.log_rules.specs.Region.{isWhole, blocksIn, blockAt}
-use Rattle.log_rules.specs.OfABlock.{AGoodBlockIsMadeByItsTelegrams, AGoodBlockHas512Bytes, AZeroedBlockIsGoodAndEmpty, AnyChangedByteIsNoticed, TheSumNeedsNoMoreThan32Bits, OneReductionAtTheEndIsEnough}
+use Rattle.log_rules.specs.OfABlock.{AGoodBlockIsMadeByItsTelegrams, AGoodBlockHas512Bytes, AZeroedBlockIsGoodAndEmpty}
+use Rattle.log_rules.specs.OfABlock.{AnyChangedByteIsNoticed, TheSumNeedsNoMoreThan32Bits, OneReductionAtTheEndIsEnough}
 use Rattle.log_rules.specs.OfTheLog.{FirstBad, FirstFreeBehindTheLastUsed, VerifyNamesTheFirstBadBlock, NoBlocksAreGoodAndFull, AnAddGoesBehindTheLastUsed, ThatPlaceIsTaken, NoSuchPlaceIsRefused}
-use Rattle.log_rules.specs.OfTheLog.{WhatIsAddedIsReadBack, TheNumber0TellsATelegram, WhatWasReadBackStillIs, GoodBlocksStayGood, NoOtherByteChanges, ARefusedAddLeavesTheRegion, ABlockSpoilsNoOther, AddsFillZeroedBlocksInOrder}
+use Rattle.log_rules.specs.OfTheLog.{WhatIsAddedIsReadBack, TheNumber0TellsATelegram, WhatWasReadBackStillIs, GoodBlocksStayGood}
+use Rattle.log_rules.specs.OfTheLog.{NoOtherByteChanges, ARefusedAddLeavesTheRegion, ABlockSpoilsNoOther, AddsFillZeroedBlocksInOrder}
 use Rattle.demands.specs.ProgramsOfTheLog.{adds, readsBack, verifies}
 
 -- "we want add, read back of a telegram's bytes by block and slot": what one adds, the other reads back at the place answered

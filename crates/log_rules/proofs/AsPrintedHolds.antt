@@ -18,7 +18,10 @@ use Rattle.log_rules.specs.ReadBack.{readBackOf}
 use Rattle.log_rules.specs.AsPrinted.{TheLogIsAsPrinted}
 
 pub log-as-printed : TheLogIsAsPrinted
-unfolding unless isDecimal isCapital codeValue isLeap monthLength monthInRange dateInRange dayExists monthStart dayOf timeInRange timeAllowed timeAloneAllowed timeAloneRefusal plainUtc tableCanSay statusAllowed weekdayAllowed weekdayAgrees datedRefusal placesOf layoutOf statusIn6021 statusIn5500 carried bodyRefusal readIn checkOf filled slotOf bodyOf sealed telegramIn telegramsOf readsWell isKept isGood blocksOf verifyOf placeIn placeFor readBackOf
+unfolding unless isDecimal isCapital codeValue isLeap monthLength monthInRange dateInRange dayExists monthStart dayOf
+    timeInRange timeAllowed timeAloneAllowed timeAloneRefusal plainUtc tableCanSay statusAllowed weekdayAllowed
+    weekdayAgrees datedRefusal placesOf layoutOf statusIn6021 statusIn5500 carried bodyRefusal readIn checkOf filled
+    slotOf bodyOf sealed telegramIn telegramsOf readsWell isKept isGood blocksOf verifyOf placeIn placeFor readBackOf
 log-as-printed =
     record {
       two = refl;

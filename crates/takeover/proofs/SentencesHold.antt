@@ -18,7 +18,9 @@ use Rattle.line.proofs.ReaderLaws.{well as well-of}
 use Rattle.line_rules.proofs.GoodLines.{GoodAt, good-feed-at, good-after-at}
 use Rattle.line.proofs.StaysGood.{reader-of-good}
 use Rattle.takeover.specs.TakingOver.{keptPlaces, stateOf, wasWellFormed, withMorePlaces, takenOver, refusedFor, takeOver}
-use Rattle.takeover.specs.Sentences.{lineKept, isTen, noTen, fedOn, endedOn, TheOldBoundIs24, RefusesWhatTheOldRuleRefused, WhatTheOldReaderLeftIsTakenOver, ARefusedStateComesBackUnchanged, MoreHeldThanThereWerePlacesIs15, WhatIsTakenOverIsTheSame, WhatIsTakenOverIsWellFormed, WithoutATenNothingDiffers, ACallWithoutATenIsTheSame, TheEndIsTheSame, WithoutATenEachCutIsTheSame}
+use Rattle.takeover.specs.Sentences.{lineKept, isTen, noTen, fedOn, endedOn, TheOldBoundIs24, RefusesWhatTheOldRuleRefused, WhatTheOldReaderLeftIsTakenOver}
+use Rattle.takeover.specs.Sentences.{ARefusedStateComesBackUnchanged, MoreHeldThanThereWerePlacesIs15, WhatIsTakenOverIsTheSame, WhatIsTakenOverIsWellFormed}
+use Rattle.takeover.specs.Sentences.{WithoutATenNothingDiffers, ACallWithoutATenIsTheSame, TheEndIsTheSame, WithoutATenEachCutIsTheSame}
 use Rattle.takeover.proofs.TakingOverLaws.{same-held, same-line, as-well-formed, too-many, takes, refuses}
 use Rattle.takeover.proofs.BoundLaws.{heardIn, bytes-alike, call-alike}
 

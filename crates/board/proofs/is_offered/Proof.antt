@@ -28,8 +28,11 @@ row-of-requires c κs = search needs
 returns-3 : tie.Need-returns-3
 unfolding isOffered
 returns-3 c =
-    rw
-    (c .row-of .ensures, sym (c .before .before .before .before .is-either .ensures) ∙ not-false _ (c .before .before .before .if1 .left), sym (c .before .before .is-either2 .ensures) ∙ not-false _ (c .before .if2 .left))
+    rw (
+      c .row-of .ensures,
+      sym (c .before .before .before .before .is-either .ensures) ∙ not-false _ (c .before .before .before .if1 .left),
+      sym (c .before .before .is-either2 .ensures) ∙ not-false _ (c .before .if2 .left),
+    )
 
 pub is-offered-spec : {M : Type 1} → statement M
 is-offered-spec =

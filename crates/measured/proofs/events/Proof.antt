@@ -38,13 +38,22 @@ wrapping-add-u64-requires : tie.Need-wrapping-add-u64-requires Inv-loop μ-loop
 wrapping-add-u64-requires c κs = search needs
 
 add-at : tie.Need-add-at Inv-loop μ-loop
-add-at c = omega (arith, end-fits (c .before .before .before .before .before .before .loop .reader) (c .before .before .before .before .before .before .before .before .before .args .«data» .now) (c .before .before .before .before .before .before .loop .at) (c .before .before .before .use-up .result) (c .before .before .before .before .before .before .loop .inv) (c .before .before .before .use-up .ensures))
+add-at c =
+    let l = c .before .before .before .before .before .before .loop in
+    let used = c .before .before .before .use-up in
+    omega (arith, end-fits (l .reader) (c .before .before .before .before .before .before .before .before .before .args .«data» .now) (l .at) (used .result) (l .inv) (used .ensures))
 
 loop-less : tie.Need-loop-less Inv-loop μ-loop
-loop-less c = omega (arith, end-fits (c .before .before .before .before .before .before .loop .reader) (c .before .before .before .before .before .before .before .before .before .args .«data» .now) (c .before .before .before .before .before .before .loop .at) (c .before .before .before .use-up .result) (c .before .before .before .before .before .before .loop .inv) (c .before .before .before .use-up .ensures))
+loop-less c =
+    let l = c .before .before .before .before .before .before .loop in
+    let used = c .before .before .before .use-up in
+    omega (arith, end-fits (l .reader) (c .before .before .before .before .before .before .before .before .before .args .«data» .now) (l .at) (used .result) (l .inv) (used .ensures))
 
 loop-again : tie.Need-loop-again Inv-loop μ-loop
-loop-again c = omega (arith, end-fits (c .before .before .before .before .before .before .loop .reader) (c .before .before .before .before .before .before .before .before .before .args .«data» .now) (c .before .before .before .before .before .before .loop .at) (c .before .before .before .use-up .result) (c .before .before .before .before .before .before .loop .inv) (c .before .before .before .use-up .ensures))
+loop-again c =
+    let l = c .before .before .before .before .before .before .loop in
+    let used = c .before .before .before .use-up in
+    omega (arith, end-fits (l .reader) (c .before .before .before .before .before .before .before .before .before .args .«data» .now) (l .at) (used .result) (l .inv) (used .ensures))
 
 returns-2 : tie.Need-returns-2 Inv-loop μ-loop
 returns-2 c = tt

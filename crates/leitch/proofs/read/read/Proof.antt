@@ -28,18 +28,26 @@ fields-refusal-requires c κs = search needs
 
 returns-3 : tie.Need-returns-3
 returns-3 c =
-    ends-refused _ (c .before .before .before .before .before .before .before .before .if1 .left) _ _ (c .before .before .before .before .before .before .before .row .ensures) (c .before .before .before .before .before .scan .ensures) (c .before .before .before .before .if2 .left) _ (c .before .before .reply-in .ensures) _ (c .before .fields-refusal .ensures) (c .if3 .taken)
+    let scanned = c .before .before .before .before in
+    ends-refused _ (scanned .before .before .before .before .if1 .left) _ _ (scanned .before .before .before .row .ensures) (scanned .before .scan .ensures) (scanned .if2 .left) _
+    (c .before .before .reply-in .ensures) _ (c .before .fields-refusal .ensures) (c .if3 .taken)
 
 day-refusal-requires : tie.Need-day-refusal-requires
 day-refusal-requires c κs = search needs
 
 returns-4 : tie.Need-returns-4
 returns-4 c =
-    ends-disagreeing _ (c .before .before .before .before .before .before .before .before .before .before .if1 .left) _ _ (c .before .before .before .before .before .before .before .before .before .row .ensures) (c .before .before .before .before .before .before .before .scan .ensures) (c .before .before .before .before .before .before .if2 .left) _ (c .before .before .before .before .reply-in .ensures) (sym (c .before .before .before .fields-refusal .ensures) ∙ c .before .before .if3 .left) _ (c .before .day-refusal .ensures) (c .if4 .taken)
+    let scanned = c .before .before .before .before .before .before in
+    let fields-good = sym (c .before .before .before .fields-refusal .ensures) ∙ c .before .before .if3 .left in
+    ends-disagreeing _ (scanned .before .before .before .before .if1 .left) _ _ (scanned .before .before .before .row .ensures) (scanned .before .scan .ensures) (scanned .if2 .left) _
+    (c .before .before .before .before .reply-in .ensures) fields-good _ (c .before .day-refusal .ensures) (c .if4 .taken)
 
 returns-5 : tie.Need-returns-5
 returns-5 c =
-    ends-good _ (c .before .before .before .before .before .before .before .before .before .before .if1 .left) _ _ (c .before .before .before .before .before .before .before .before .before .row .ensures) (c .before .before .before .before .before .before .before .scan .ensures) (c .before .before .before .before .before .before .if2 .left) _ (c .before .before .before .before .reply-in .ensures) (sym (c .before .before .before .fields-refusal .ensures) ∙ c .before .before .if3 .left) (sym (c .before .day-refusal .ensures) ∙ c .if4 .left)
+    let scanned = c .before .before .before .before .before .before in
+    let fields-good = sym (c .before .before .before .fields-refusal .ensures) ∙ c .before .before .if3 .left in
+    ends-good _ (scanned .before .before .before .before .if1 .left) _ _ (scanned .before .before .before .row .ensures) (scanned .before .scan .ensures) (scanned .if2 .left) _
+    (c .before .before .before .before .reply-in .ensures) fields-good (sym (c .before .day-refusal .ensures) ∙ c .if4 .left)
 
 pub read-spec : {M : Type 1} → statement M
 read-spec =

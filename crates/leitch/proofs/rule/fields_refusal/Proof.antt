@@ -28,14 +28,16 @@ time-in-range-requires c κs = search needs
 returns-3 : tie.Need-returns-3
 unfolding fieldsRefusal weekdayListed allInRange
 returns-3 c =
-    simp
-    (sym (c .before .before .before .before .before .status-listed .ensures) ∙ not-false _ (c .before .before .before .before .if1 .left), sym (c .before .before .before .inside .ensures) ∙ not-false _ (c .before .before .if2 .left), sym (c .before .time-in-range .ensures) ∙ not-true _ (c .if3 .taken))
+    let status = sym (c .before .before .before .before .before .status-listed .ensures) ∙ not-false _ (c .before .before .before .before .if1 .left) in
+    let weekday = sym (c .before .before .before .inside .ensures) ∙ not-false _ (c .before .before .if2 .left) in
+    simp (status, weekday, sym (c .before .time-in-range .ensures) ∙ not-true _ (c .if3 .taken))
 
 returns-4 : tie.Need-returns-4
 unfolding fieldsRefusal weekdayListed allInRange
 returns-4 c =
-    simp
-    (sym (c .before .before .before .before .before .before .before .status-listed .ensures) ∙ not-false _ (c .before .before .before .before .before .before .if1 .left), sym (c .before .before .before .before .before .inside .ensures) ∙ not-false _ (c .before .before .before .before .if2 .left), lt-leb _ 999 (c .if4 .taken), and-false)
+    let status = sym (c .before .before .before .before .before .before .before .status-listed .ensures) ∙ not-false _ (c .before .before .before .before .before .before .if1 .left) in
+    let weekday = sym (c .before .before .before .before .before .inside .ensures) ∙ not-false _ (c .before .before .before .before .if2 .left) in
+    simp (status, weekday, lt-leb _ 999 (c .if4 .taken), and-false)
 
 date-refusal-requires : tie.Need-date-refusal-requires
 date-refusal-requires c κs = search needs

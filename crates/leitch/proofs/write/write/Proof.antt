@@ -13,14 +13,17 @@ returns c = ends-refused (c .before .before .before .args .reply) (c .before .be
 
 returns-2 : tie.Need-returns-2
 returns-2 c =
-    ends-short (c .before .before .before .before .args .reply) (c .before .before .before .before .args .out .now) (sym (c .before .before .fields-refusal .ensures) ∙ c .before .if1 .left) (c .if2 .taken)
+    let args = c .before .before .before .before .args in
+    ends-short (args .reply) (args .out .now) (sym (c .before .before .fields-refusal .ensures) ∙ c .before .if1 .left) (c .if2 .taken)
 
 day-refusal-requires : tie.Need-day-refusal-requires
 day-refusal-requires c κs = search needs
 
 returns-3 : tie.Need-returns-3
 returns-3 c =
-    ends-disagreeing (c .before .before .before .before .before .before .args .reply) (c .before .before .before .before .before .before .args .out .now) (sym (c .before .before .before .before .fields-refusal .ensures) ∙ c .before .before .before .if1 .left) (c .before .before .if2 .left) _ (c .before .day-refusal .ensures) (c .if3 .taken)
+    let args = c .before .before .before .before .before .before .args in
+    let fields-good = sym (c .before .before .before .before .fields-refusal .ensures) ∙ c .before .before .before .if1 .left in
+    ends-disagreeing (args .reply) (args .out .now) fields-good (c .before .before .if2 .left) _ (c .before .day-refusal .ensures) (c .if3 .taken)
 
 row-requires : tie.Need-row-requires
 row-requires c κs = search needs
@@ -39,7 +42,14 @@ same-length c = search needs
 
 returns-4 : tie.Need-returns-4
 returns-4 c =
-    ends-written (c .before .before .before .before .before .before .before .before .before .before .before .before .before .before .args .reply) (c .before .before .before .before .before .before .before .before .before .before .before .before .before .before .args .out .now) (sym (c .before .before .before .before .before .before .before .before .before .before .before .before .fields-refusal .ensures) ∙ c .before .before .before .before .before .before .before .before .before .before .before .if1 .left) (c .before .before .before .before .before .before .before .before .before .before .if2 .left) (sym (c .before .before .before .before .before .before .before .before .before .day-refusal .ensures) ∙ c .before .before .before .before .before .before .before .before .if3 .left) _ _ _ (c .before .before .before .before .before .before .before .row .ensures) (c .before .before .before .before .before .before .digits-out .ensures) (c .before .before .render .ensures)
+    let at-day = c .before .before .before .before .before .before .before .before in
+    let at-room = at-day .before .before in
+    let at-fields = at-room .before in
+    let args = at-fields .before .before .before .args in
+    let fields-good = sym (at-fields .before .fields-refusal .ensures) ∙ at-fields .if1 .left in
+    let day-good = sym (at-day .before .day-refusal .ensures) ∙ at-day .if3 .left in
+    ends-written (args .reply) (args .out .now) fields-good (at-room .if2 .left) day-good _ _ _
+    (c .before .before .before .before .before .before .before .row .ensures) (c .before .before .before .before .before .before .digits-out .ensures) (c .before .before .render .ensures)
 
 pub write-spec : {M : Type 1} → statement M
 write-spec =
