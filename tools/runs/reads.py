@@ -1,4 +1,5 @@
 """Reads that fail, that a signal breaks off, and very many of them: none is taken for the end of the input."""
+import fcntl
 import os
 import pathlib
 import signal
@@ -7,6 +8,7 @@ import struct
 import subprocess
 import sys
 import tempfile
+import termios
 import time
 
 from runs import listings, logs, program
@@ -20,22 +22,25 @@ BREAKS = 3
 
 
 class Way:
-    """A way to list: its words, an input with what is listed of it, what is listed where it breaks off, and what is then told."""
+    """A way to list: its words, an input with what is listed of it, places where the input breaks off, each with what is listed of the
+    bytes before it, and what is then told."""
 
-    def __init__(self, words, told, given, listing, cut, unfinished):
-        self.words, self.told, self.given, self.listing, self.cut, self.unfinished = words, told, given, listing, cut, unfinished
+    def __init__(self, words, told, given, listing, unfinished):
+        self.words, self.told, self.given, self.listing, self.unfinished = words, told, given, listing, unfinished
         self.header = listing[:listing.index(b"\n") + 1]
 
 
 def ways():
-    """A line in both orders, and both listings of a log. The input breaks off inside a telegram or inside a block."""
+    """A line in both orders, and both listings of a log. The input breaks off inside a telegram or a block, and where one ends."""
     for words, telegram in ([], TELEGRAM), ([EXCHANGED_WORD], EXCHANGED):
         rows = [b"%d" % (place * len(telegram)) + COLUMNS for place in range(3)]
-        yield Way(words, CAPTURE_UNREAD, 3 * telegram, b"".join([HEADER, *rows, b"stray 0\n"]), 2 * len(telegram) + 9, b"".join([HEADER, *rows[:2]]))
+        two = b"".join([HEADER, *rows[:2]])
+        yield Way(words, CAPTURE_UNREAD, 3 * telegram, b"".join([HEADER, *rows, b"stray 0\n"]), {2 * len(telegram) + 9: two, 2 * len(telegram): two})
     log = program.ROOT / "samples" / "month.log"
     for word, suffix in LOG_WORDS.items():
-        rows, cut = log.with_suffix(suffix).read_bytes(), BLOCK + 100
-        yield Way([word], LOG_UNREAD, log.read_bytes(), rows, cut, logs.of_whole_blocks(rows, cut))
+        rows = log.with_suffix(suffix).read_bytes()
+        cuts = BLOCK + 100, BLOCK, 2 * BLOCK
+        yield Way([word], LOG_UNREAD, log.read_bytes(), rows, {cut: logs.of_whole_blocks(rows, cut) for cut in cuts})
 
 
 def check_unreadable(way):
@@ -54,15 +59,28 @@ def check_unreadable(way):
         os.close(opened)
 
 
-def check_broken_line(way):
-    """A connection that is reset behind some bytes: what came before is listed, and nothing says that it is all."""
+def wait_until_taken(ours, made):
+    """Until the other end has read all that was sent, or has ended."""
+    limit = time.monotonic() + program.TIMEOUT
+    while struct.unpack("i", fcntl.ioctl(ours, termios.TIOCOUTQ, bytes(4)))[0] and made.poll() is None:
+        if time.monotonic() > limit:
+            program.fail("a process does not read its input")
+        time.sleep(0.001)
+
+
+def check_broken_line(way, cut, reads):
+    """A connection that is reset behind so many bytes, which came in so many reads: what came is listed, and nothing says that it is all."""
+    what = f"a line that is reset at {cut} behind {reads} reads, {way.words}"
     ours, theirs = socket.socketpair()
     theirs.send(b"x")          # what is never read: closing our end then resets theirs
-    ours.send(way.given[:way.cut])
-    ours.close()
-    got = program.run(way.words, stdin=theirs)
-    theirs.close()
-    program.same_outputs(f"a line that is reset, {way.words}", got, (way.unfinished, way.told + b"Connection reset by peer\n"))
+    with program.start(way.words, stdin=theirs) as made:
+        theirs.close()
+        for read in range(reads):
+            ours.send(way.given[cut * read // reads:cut * (read + 1) // reads])
+            wait_until_taken(ours, made)
+        ours.close()
+        got = program.end_of(made, what)
+    program.same_outputs(what, got, (way.unfinished[cut], way.told + b"Connection reset by peer\n"))
 
 
 def state_of(made):
@@ -124,7 +142,8 @@ def check_interrupted(way):
     with program.start(way.words, stdin=theirs, bufsize=0) as made:
         theirs.close()
         out = made.stdout.read(1)
-        for piece in way.given[:way.cut], way.given[way.cut:], b"":
+        inside = next(iter(way.unfinished))
+        for piece in way.given[:inside], way.given[inside:], b"":
             time.sleep(0.02)
             for _ in range(BREAKS):
                 break_off(made)
@@ -176,5 +195,7 @@ def check_each_way():
     check_breaking_off()
     for way in ways():
         check_unreadable(way)
-        check_broken_line(way)
+        for cut in way.unfinished:
+            for reads in 1, 3:
+                check_broken_line(way, cut, reads)
         check_interrupted(way)

@@ -2,7 +2,7 @@
 use mathlib.Core.Path.{_≡_}
 use mathlib.Core.Bool.{Bool, true, false}
 use mathlib.Core.List.{List, [], _∷_, map}
-use Prim.Native.Nat.{ℕ}
+use Prim.Native.Nat.{ℕ, _+_, _*_, _<_}
 use lib.ListN.{length, take, drop}
 use Rattle.refusals.specs.Refusals.{Outcome, done, refused, after}
 use Rattle.calendar_rules.specs.declared.date.Date.{Date}
@@ -30,6 +30,20 @@ monthLengths =
 
 abbrev pub lengthsIn : ℕ → List (Outcome ℕ)
 lengthsIn year = map (daysInMonth year) (1 ∷ 2 ∷ 3 ∷ 4 ∷ 5 ∷ 6 ∷ 7 ∷ 8 ∷ 9 ∷ 10 ∷ 11 ∷ 12 ∷ [])
+
+-- and so in every year of the calendar: 1980 is a leap year, and behind each leap year come three others
+abbrev pub leapYear : List (Outcome ℕ)
+leapYear = map done (31 ∷ 29 ∷ 31 ∷ 30 ∷ 31 ∷ 30 ∷ 31 ∷ 31 ∷ 30 ∷ 31 ∷ 30 ∷ 31 ∷ [])
+
+abbrev pub otherYear : List (Outcome ℕ)
+otherYear = map done (31 ∷ 28 ∷ 31 ∷ 30 ∷ 31 ∷ 30 ∷ 31 ∷ 31 ∷ 30 ∷ 31 ∷ 30 ∷ 31 ∷ [])
+
+abbrev pub fourFrom : ℕ → Type 0
+fourFrom year =
+    (lengthsIn year ≡ leapYear) × (lengthsIn (year + 1) ≡ otherYear) × (lengthsIn (year + 2) ≡ otherYear) × (lengthsIn (year + 3) ≡ otherYear)
+
+abbrev pub TheMonthsOfEveryYear : Type 0
+TheMonthsOfEveryYear = (fours : ℕ) → fours < 25 → fourFrom (1980 + 4 * fours)
 
 -- "month or year (1980 to 2079) out of range"
 abbrev pub noMonths : List ((ℕ × ℕ) × Outcome ℕ)

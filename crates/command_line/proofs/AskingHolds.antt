@@ -9,7 +9,7 @@ use Rattle.command_line.specs.declared.Asked.the-variants.{Listing, Help
 use Rattle.command_line.specs.Asking.{noWord, withWord, withWords, askedBy, WordsComeOneByOne, Settled, TheFirstSettles}
 
 -- some words, and those behind them
-behind : (asked : Asked) (place : ℕ) (words more : List (List ℕ))
+pub behind : (asked : Asked) (place : ℕ) (words more : List (List ℕ))
     → withWords asked place (words ++ more) ≡ withWords (withWords asked place words) (place + length words) more
 behind asked place [] more = ap (λ n. withWords asked n more) (omega arith)
 behind asked place (word ∷ words) more =

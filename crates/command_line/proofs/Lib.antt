@@ -1,4 +1,5 @@
 pub mod WordLaws
 pub mod AskingHolds
 pub mod ExactlyHolds
+pub mod EveryWordHolds
 pub mod AsPrintedHolds

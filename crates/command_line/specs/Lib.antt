@@ -1,4 +1,5 @@
 pub mod Words
 pub mod Asking
 pub mod Exactly
+pub mod EveryWord
 pub mod AsPrinted

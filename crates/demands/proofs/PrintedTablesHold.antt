@@ -26,6 +26,7 @@ all-is-as-printed = (
   records.as-printed,
   calendar.month-starts-as-printed,
   calendar.calendar-as-printed,
+  calendar.the-months-of-every-year,
   clock.as-printed,
   board.of-6036-as-printed,
   listing.listing-as-printed,

@@ -6,7 +6,7 @@ use Rattle.telegram_rules.specs.AsPrinted.{WritesAreAsPrinted}
 use Rattle.trailer_rules.specs.AsPrinted.{TrailersAreAsPrinted}
 use Rattle.telegram_rules.specs.OrderAsPrinted.{OrdersAreAsPrinted}
 use Rattle.record_rules.specs.AsPrinted.{RecordsAreAsPrinted, SixtiesAreAsPrinted, TheLastSixtyIsAsPrinted}
-use Rattle.calendar_rules.specs.AsPrinted.{TheMonthStartsAreAsPrinted, TheCalendarIsAsPrinted, TheDaysOfTheYearAreAsPrinted}
+use Rattle.calendar_rules.specs.AsPrinted.{TheMonthStartsAreAsPrinted, TheCalendarIsAsPrinted, TheMonthsOfEveryYear, TheDaysOfTheYearAreAsPrinted}
 use Rattle.clock.specs.AsPrinted.{StepsAreAsPrinted, TheLastSixtyIsAsPrinted as TheLastStepIsAsPrinted}
 use Rattle.board_rules.specs.AsPrinted.{The6036IsAsPrinted}
 use Rattle.board_rules.specs.AsPrinted6038.{The6038IsAsPrinted}
@@ -25,9 +25,10 @@ AllIsAsPrinted =
     TheTablesAreAsPrinted
     -- "The seven layouts", "Calendar, UTC and the station clock": what a record may say, its count and its UTC seconds in each season
     × RecordsAreAsPrinted
-    -- "Calendar": 1,200 month starts, 0, 31, 60 and 36,494; printed dates, lengths of months, times
+    -- "Calendar": 1,200 month starts, 0, 31, 60 and 36,494; printed dates, times, the lengths of the months of every year
     × TheMonthStartsAreAsPrinted
     × TheCalendarIsAsPrinted
+    × TheMonthsOfEveryYear
     -- "The station clock": steps
     × StepsAreAsPrinted
     -- "6036 parameter byte": every row of the switch tables

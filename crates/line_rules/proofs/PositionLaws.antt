@@ -1,5 +1,6 @@
 -- Positions: the bytes held are the last ones fed, so that fed less held is where they begin. Assumes nothing.
 use mathlib.Core.Path.{_≡_, refl, ap, sym, _∙_}
+use mathlib.Core.Logic.{_⊎_, inl, inr}
 use mathlib.Core.Bool.{Bool, true, false, cond}
 use mathlib.Core.List.{List, [], _∷_, _++_, append-nil, append-assoc}
 use Prim.Native.Nat.{ℕ, _+_, _-_}
@@ -9,9 +10,11 @@ use lib.ListN.{length, drop, length-append}
 use lib.Seq.{drop-append-seam}
 use borrow.Author.Tests.{eqb-true}
 use Rattle.ascii.specs.Control.{stx, etx}
-use Rattle.line_rules.specs.Line.{places, Line, heldAfter, step, freshLine}
-use Rattle.line_rules.specs.Events.{lineAfter}
-use Rattle.line_rules.specs.Sentences.{TheStartIsWhereTheHeldBegin}
+use Rattle.line_rules.specs.Line.{places, Line, heldAfter, step, freshLine, Told, nothing, event, toldBy, startOf, answerFor}
+use Rattle.line_rules.specs.Events.{lineAfter, tells}
+use Rattle.record_rules.specs.declared.RecordAnswer.{RecordAnswer}
+use Rattle.line_rules.specs.declared.Heard.the-variants.{Event}
+use Rattle.line_rules.specs.Sentences.{TheStartIsWhereTheHeldBegin, AnEventCarriesThatPosition}
 use Rattle.line_rules.proofs.EventLaws.{good-fresh, good-after}
 use Rattle.line_rules.proofs.AccountLaws.{fed-counts}
 
@@ -59,3 +62,13 @@ the-start-is-where-the-held-begin order bytes =
       (λ i. drop (begin i) (last .is i)) ∙ drop-append-seam (last .front) (line .held),
       omega (arith, whole, fits, fed-counts (freshLine order) bytes),
     )
+
+pub an-event-carries-that-position : AnEventCarriesThatPosition
+an-event-carries-that-position order bytes byte =
+    let line = lineAfter (freshLine order) bytes in
+    go (toldBy (line .order) (line .held) byte) (startOf line) (the-start-is-where-the-held-begin order bytes .1)
+  where
+    go : (told : Told) (start : ℕ) {begin : ℕ} → start ≡ begin
+        → (tells told start [] ≡ []) ⊎ ((answer : RecordAnswer) × (size : ℕ) × (tells told start [] ≡ Event answer begin size ∷ []))
+    go nothing start is = inl refl
+    go (event outcome size) start is = inr (answerFor outcome, size, ap (λ s. Event (answerFor outcome) s size ∷ []) is)
