@@ -7,7 +7,6 @@ bench/measure.py does so first. The first difference ends the run.
 """
 
 import concurrent.futures
-import itertools
 import os
 import pathlib
 import sys
@@ -19,13 +18,9 @@ import programs
 
 sys.path.insert(0, str(programs.ROOT / "reference"))
 
-import command_cases
 import listing
 import measured
-from command_telegrams import telegram_of
 from layouts import AS_PRINTED, EXCHANGED
-from log_scripts.blocks import block_of
-from log_scripts.commands import REFUSED
 
 SAMPLES = programs.ROOT / "samples"
 LINES = programs.ROOT / "crates" / "test_lines"
@@ -99,18 +94,9 @@ def check_listers(made):
     check("a long capture", "dialspark", made.printed(made.dialspark, LONG), listing.listing(LONG))
 
 
-def logs_with_commands():
-    """A block with each kind of remote command; and such a block with one behind it that holds a command that is refused."""
-    good = block_of([telegram_of(command) for command in command_cases.one_of_each()])
-    yield good
-    for telegram in itertools.chain.from_iterable(REFUSED.values()):
-        yield good + block_of([telegram])
-
-
 def check_readers(made):
-    """The proved program and the plain readers, on more than one piece of each kind of work, and on remote commands."""
-    commands = [b"l" + (SAMPLES / "conversation.capture").read_bytes(), *(b"v" + log for log in logs_with_commands())]
-    for given in (b"r" + LONG, b"w" + LONG, b"l" + LONG, b"v" + BLOCKS, b"a" + BLOCKS[:512], *commands):
+    """The proved program and the plain readers, on more than one piece of each kind of work."""
+    for given in (b"r" + LONG, b"w" + LONG, b"l" + LONG, b"v" + BLOCKS, b"a" + BLOCKS[:512]):
         wanted = measured.printed(given)
         for program in (made.measured, made.plain, made.searching):
             check(f"the letter {given[:1].decode()}", pathlib.Path(program[-1]).name, made.printed(program, given), wanted)

@@ -1,5 +1,5 @@
-/* A plain C reader of the same telegrams, lines and logs, to be measured beside the proved one: the same seven layouts, the same remote
-   commands, the same refusals, the same line, the same blocks. It takes what the program `measured` takes, and prints what that prints: a
+/* A plain C reader of the same telegrams, lines and logs, to be measured beside the proved one: the same seven layouts, the same
+   refusals, the same line, the same blocks. It takes what the program `measured` takes, and prints what that prints: a
    letter, r, w, l, v or a, and then 6021 telegrams of 18 bytes to read or to write anew, a line to feed, or a region to verify or to
    add to. With the letter p it prints the listing of a line, as `dialspark` does. Compiled with MEMCHR it skips stray bytes by the C
    library's memchr, and without it takes them one by one. */
@@ -18,7 +18,7 @@ struct layout {
     byte fixed_size;
 };
 
-enum { L6021, L6021T, L2000, L5500, L5500T, L5050, L5050T, TIM, DIF, POS };
+enum { L6021, L6021T, L2000, L5500, L5500T, L5050, L5050T };
 
 static const struct layout layouts[] = {
     [L6021] = {0, 1, 2, 4, 6, 8, 10, NONE, 12, {14, LF, 15, CR}, 4},
@@ -31,7 +31,6 @@ static const struct layout layouts[] = {
     [L5050T] = {NONE, NONE, 0, 3, 6, NONE, NONE, NONE, NONE, {2, ' ', 5, ' ', 8, ' ', 9, CR, 10, LF}, 10},
 };
 
-/* Of a remote command it has the kind alone. */
 struct record {
     int layout, status, weekday, utc, hour, minute, second, day, month, year, century;
 };
@@ -106,20 +105,6 @@ static int takes_60(const struct record *r, int year, int daylight) {
     return r->hour == daylight && r->day == 1 && (year != 1980 || r->month != 1);
 }
 
-/* A day of the calendar, and its weekday: 6, 7, 8 or 0. */
-static int judge_date(int day, int month, int year, int weekday) {
-    if (day < 1 || day > 31 || month < 1 || month > 12 || year < 1980 || year > 2079)
-        return 6;
-    if (day > days_in(month, year))
-        return 7;
-    return weekday_of(day, month, year) != weekday ? 8 : 0;
-}
-
-/* The year that two digits stand for. */
-static int full_year(int year) {
-    return year + (year < 80 ? 2000 : 1900);
-}
-
 static int judge(struct record *r) {
     int late = r->hour > 23 || r->minute > 59 || r->second > 59;
     if (r->layout == L6021T || r->layout == L5500T || r->layout == L5050T)
@@ -135,10 +120,14 @@ static int judge(struct record *r) {
     }
     if (r->weekday < 1 || r->weekday > 7)
         return 5;
-    int year = r->layout == L2000 ? 100 * r->century + r->year : full_year(r->year);
+    int year = r->layout == L2000 ? 100 * r->century + r->year : r->year + (r->year < 80 ? 2000 : 1900);
     if (late && !takes_60(r, year, daylight))
         return 6;
-    return judge_date(r->day, r->month, year, r->weekday);
+    if (r->day < 1 || r->day > 31 || r->month < 1 || r->month > 12 || year < 1980 || year > 2079)
+        return 6;
+    if (r->day > days_in(r->month, year))
+        return 7;
+    return weekday_of(r->day, r->month, year) != r->weekday ? 8 : 0;
 }
 
 /* One telegram with STX and ETX: 0, or 1 to 8. */
@@ -180,103 +169,6 @@ static int write_6021(struct record *r, byte *bytes) {
     return 0;
 }
 
-/* --- remote commands --- */
-
-/* What stands between STX and ETX where a command carries something, and where it asks: x a hex digit, 0 a decimal one, w a weekday, and
-   + E N one of two signs or hemispheres; the rest is fixed. */
-static const struct command {
-    const char *carrying, *asking;
-    byte carrying_length, asking_length;
-} commands[] = {
-    {"TIM:xx,00,00,00,00,00,00,w\r\n", "TIM:xx\r\n", 28, 8},
-    {"DIF:+00,00\r\n", "DIF:\r\n", 12, 6},
-    {"POS:E:000,00,00,N:00,00,00\r\n", "POS:\r\n", 28, 6},
-};
-
-enum { COMMANDS = sizeof commands / sizeof *commands };
-
-/* TIM, DIF or POS by the three letters, or -1. */
-static int command_of(const byte *body) {
-    for (int at = 0; at < COMMANDS; at++) {
-        const char *letters = commands[at].asking;
-        if (body[0] == letters[0] && body[1] == letters[1] && body[2] == letters[2])
-            return TIM + at;
-    }
-    return -1;
-}
-
-/* What a character is refused with in its place: 3, 4, 5 or 0. */
-static int misplaced(char place, byte c) {
-    switch (place) {
-    case '0': return c < '0' || c > '9' ? 4 : 0;
-    case 'x': return hex(c) < 0 ? 5 : 0;
-    case 'w': return c < '1' || c > '7' ? 5 : 0;
-    case '+': return c != '+' && c != '-' ? 3 : 0;
-    case 'E': return c != 'W' && c != 'E' ? 3 : 0;
-    case 'N': return c != 'N' && c != 'S' ? 3 : 0;
-    default: return c != place ? 3 : 0;
-    }
-}
-
-/* The lowest over all places. */
-static int scan_command(const char *row, const byte *body, int length) {
-    int lowest = 0;
-    for (int at = 0; at < length; at++) {
-        int fault = misplaced(row[at], body[at]);
-        if (fault && (!lowest || fault < lowest))
-            lowest = fault;
-    }
-    return lowest;
-}
-
-static int judge_tim(const byte *body) {
-    if (two(body + 7) > 23 || two(body + 10) > 59 || two(body + 13) > 59)
-        return 6;
-    return judge_date(two(body + 16), two(body + 19), full_year(two(body + 22)), body[25] - '0');
-}
-
-/* At most twelve hours either way, and no minus before nothing. */
-static int judge_dif(const byte *body) {
-    int minutes = two(body + 8), difference = 60 * two(body + 5) + minutes;
-    return minutes > 59 || difference > 720 || (body[4] == '-' && difference == 0) ? 6 : 0;
-}
-
-/* Minutes and what is behind them stand at a place; at the end of the range they are zero. */
-static int is_angle(int degrees, int end, const byte *smaller) {
-    int minutes = two(smaller), fraction = two(smaller + 3);
-    return degrees < end ? minutes <= 59 : degrees == end && minutes == 0 && fraction == 0;
-}
-
-static int judge_pos(const byte *body) {
-    int longitude = 100 * (body[6] - '0') + two(body + 7), latitude = two(body + 18);
-    return is_angle(longitude, 180, body + 10) && is_angle(latitude, 90, body + 21) ? 0 : 6;
-}
-
-/* A framed telegram with a colon in fifth place: 0, or 22 or 1 to 8. */
-static int read_command(const byte *bytes, int length, struct record *r) {
-    const byte *body = bytes + 1;
-    r->layout = command_of(body);
-    if (r->layout < 0)
-        return 22;
-    const struct command *command = &commands[r->layout - TIM];
-    int carries = length - 2 == command->carrying_length;
-    if (!carries && length - 2 != command->asking_length)
-        return 1;
-    if (bytes[0] != STX || bytes[length - 1] != ETX)
-        return 2;
-    int refusal = scan_command(carries ? command->carrying : command->asking, body, length - 2);
-    if (refusal || !carries)
-        return refusal;
-    return r->layout == TIM ? judge_tim(body) : r->layout == DIF ? judge_dif(body) : judge_pos(body);
-}
-
-/* One telegram or one remote command: 0, or its refusal. */
-static int read_message(const byte *bytes, int length, struct record *r) {
-    return length >= 5 && bytes[4] == ':' ? read_command(bytes, length, r) : read_telegram(bytes, length, r);
-}
-
-/* --- the line --- */
-
 struct reader {
     byte held[HELD + 1];
     int length;
@@ -305,7 +197,7 @@ static int take(struct reader *reader, byte c, struct event *event) {
     if (c == ETX) {
         reader->held[reader->length++] = c;
         event->length = reader->length;
-        event->refusal = read_message(reader->held, reader->length, &event->record);
+        event->refusal = read_telegram(reader->held, reader->length, &event->record);
         reader->length = 0;
         return 1;
     }
@@ -386,7 +278,7 @@ static int is_good(const byte *block) {
         return 0;
     for (const byte *slot = block; slot < block + SLOT * used; slot += SLOT) {
         count length = slot[0];
-        if (length >= SLOT || read_message(slot + 1, length, &record) != 0 || !is_zero(slot + 1 + length, SLOT - 1 - length))
+        if (length >= SLOT || read_telegram(slot + 1, length, &record) != 0 || !is_zero(slot + 1 + length, SLOT - 1 - length))
             return 0;
     }
     return 1;
@@ -404,7 +296,7 @@ static count good_blocks(const byte *region, count length) {
 static int add(byte *region, count length, const byte *telegram, count size) {
     struct record record;
     byte *found = 0;
-    if (read_message(telegram, size, &record) != 0 || length % BLOCK != 0)
+    if (read_telegram(telegram, size, &record) != 0 || length % BLOCK != 0)
         return 0;
     for (byte *block = region; block < region + length; block += BLOCK) {
         if (!is_good(block))
@@ -492,14 +384,10 @@ static void put_status(const struct record *r) {
 }
 
 static void put_record(const struct record *r) {
-    static const char *const kinds[] = {"6021", "6021t", "2000", "5500", "5500t", "5050", "5050t", "TIM", "DIF", "POS"};
+    static const char *const kinds[] = {"6021", "6021t", "2000", "5500", "5500t", "5050", "5050t"};
+    int is_dated = layouts[r->layout].status != NONE;
     put_text(kinds[r->layout]);
     put(';');
-    if (r->layout >= TIM) {
-        put_text("-;-;-;-");
-        return;
-    }
-    int is_dated = layouts[r->layout].status != NONE;
     if (is_dated) {
         put_digits(r->layout == L2000 ? r->century : r->year < 80 ? 20 : 19);
         put_digits(r->year);

@@ -1,7 +1,6 @@
 /* A C lister of the same rules, tuned: it lists a captured line from standard input as `dialspark` does, with the word --exchanged
    one of a board that exchanges CR and LF. Telegrams are judged where they lie in the input, by rows of places that are made once
-   from the layouts as printed; their digits go to the listing as they stand, and the rest of a row is laid out beforehand. Remote
-   commands, which are rare, are looked for where no layout fits: every layout has a digit where they have a colon. The
+   from the layouts as printed; their digits go to the listing as they stand, and the rest of a row is laid out beforehand. The
    few declarations that it needs of the C library stand here, so that no header for the target has to be installed. */
 typedef unsigned char byte;
 typedef unsigned int count; /* runs free and wraps, as positions and stray bytes do */
@@ -9,7 +8,6 @@ typedef unsigned long size, word;
 
 void *memchr(const void *bytes, int wanted, size length);
 void *memcpy(void *to, const void *from, size length);
-int memcmp(const void *one, const void *other, size length);
 void *memmove(void *to, const void *from, size length);
 int strcmp(const char *one, const char *other);
 char *stpcpy(char *to, const char *from);
@@ -276,107 +274,17 @@ static int judge_dated(count start, const struct layout *layout, const byte *bod
     return 0;
 }
 
-/* --- one remote command --- */
-
-/* What a character is refused with in its place: 3, 4, 5 or 0. Of a place stands in a row: x a hex digit, 0 a decimal one, w a weekday,
-   + E N one of two signs or hemispheres, and else the one character that it may hold. */
-static int misplaced(byte place, byte c) {
-    switch (place) {
-    case '0': return (byte)(c - '0') > 9 ? 4 : 0;
-    case 'x': return four_bits[c] == NO_BITS ? 5 : 0;
-    case 'w': return (byte)(c - '1') > 6 ? 5 : 0;
-    case '+': return c != '+' && c != '-' ? 3 : 0;
-    case 'E': return c != 'W' && c != 'E' ? 3 : 0;
-    case 'N': return c != 'N' && c != 'S' ? 3 : 0;
-    default: return c != place ? 3 : 0;
-    }
-}
-
-/* The lowest over all places. */
-static int misfit_command(const char *row, const byte *body) {
-    int lowest = 0;
-    for (; *row; row++, body++) {
-        int fault = misplaced(*row, *body);
-        if (fault && (!lowest || fault < lowest))
-            lowest = fault;
-    }
-    return lowest;
-}
-
-/* The two digits of a field whose first stands at a place. */
-static count pair(const byte *body, int at) {
-    return two(body, at + 1);
-}
-
-static int judge_tim(const byte *body) {
-    count day = pair(body, 16), month = pair(body, 19), year = (pair(body, 22) + 20) % 100;
-    if (pair(body, 7) > 23 || pair(body, 10) > 59 || pair(body, 13) > 59 || day < 1 || day > 31 || month < 1 || month > 12)
-        return 6;
-    if (day > days_in[year][month - 1])
-        return 7;
-    return (month_begins_on[year][month - 1] + day - 1) % 7 + 1 != (count)(body[25] - '0') ? 8 : 0;
-}
-
-/* At most twelve hours either way, and no minus before nothing. */
-static int judge_dif(const byte *body) {
-    count minutes = pair(body, 8), difference = 60 * pair(body, 5) + minutes;
-    return minutes > 59 || difference > 720 || (body[4] == '-' && difference == 0) ? 6 : 0;
-}
-
-/* The minutes stand at a place, and the digits behind them; at the end of the range all are zero. */
-static int is_angle(count degrees, count end, const byte *body, int at) {
-    count minutes = pair(body, at), fraction = pair(body, at + 3);
-    return degrees < end ? minutes <= 59 : degrees == end && minutes + fraction == 0;
-}
-
-static int judge_pos(const byte *body) {
-    count longitude = 100 * (body[6] - '0') + pair(body, 7), latitude = pair(body, 18);
-    return is_angle(longitude, 180, body, 10) && is_angle(latitude, 90, body, 21) ? 0 : 6;
-}
-
-/* What stands between STX and ETX where a command carries something, and where it asks; the row of the listing behind its start. */
-static const struct command {
-    const char *carrying, *asking, *columns;
-    int (*judge)(const byte *body);
-} commands[] = {
-    {"TIM:xx,00,00,00,00,00,00,w\r\n", "TIM:xx\r\n", ";TIM;-;-;-;-\n", judge_tim},
-    {"DIF:+00,00\r\n", "DIF:\r\n", ";DIF;-;-;-;-\n", judge_dif},
-    {"POS:E:000,00,00,N:00,00,00\r\n", "POS:\r\n", ";POS;-;-;-;-\n", judge_pos},
-};
-
-enum { COMMANDS = sizeof commands / sizeof *commands };
-
-/* Lists one with a colon in fifth place: 0, or 22 or its refusal. */
-static int judge_command(count start, const byte *body, size length) {
-    const struct command *command = commands;
-    while (command < commands + COMMANDS && memcmp(body, command->asking, 3) != 0)
-        command++;
-    if (command == commands + COMMANDS)
-        return 22;
-    int carries = length == strlen(command->carrying);
-    if (!carries && length != strlen(command->asking))
-        return 1;
-    int refusal = misfit_command(carries ? command->carrying : command->asking, body);
-    if (!refusal && carries)
-        refusal = command->judge(body);
-    if (!refusal)
-        out = put_text(put_number(room(), start), command->columns);
-    return refusal;
-}
-
-/* --- what stands between STX and ETX --- */
-
-/* Lists what begins with STX and ends with ETX: 0, or its refusal. */
+/* Lists a telegram that begins with STX and ends with ETX: 0, or its refusal. */
 static int judge(count start, const byte *telegram, size length) {
     const byte *body = telegram + 1;
     const struct layout *layout = of_length[length - 2];
-    if (layout && layout->other && body[layout->length - 1] != layout->low[layout->length - 1])
+    if (!layout)
+        return 1;
+    if (layout->other && body[layout->length - 1] != layout->low[layout->length - 1])
         layout = layout->other;
-    if (layout && fits(layout, body))
-        return layout->is_dated ? judge_dated(start, layout, body) : judge_time_only(start, layout, body);
-    if (length >= 5 && telegram[4] == ':')
-        return judge_command(start, body, length - 2);
-    return layout ? misfit(layout, body) : 1;
+    if (!fits(layout, body))
+        return misfit(layout, body);
+    return layout->is_dated ? judge_dated(start, layout, body) : judge_time_only(start, layout, body);
 }
 
 /* --- the line --- */

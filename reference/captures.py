@@ -1,5 +1,5 @@
-"""Lines for the program `test_lines`: damaged ones, the samples, those with a run of stray bytes of each length, those with telegrams
-about as long as can be held, and those with remote commands.
+"""Lines for the program `test_lines`: damaged ones, the samples, those with a run of stray bytes of each length, and those with
+telegrams about as long as can be held.
 
 The program gets a line in pieces: two bytes that say how long a piece is, the higher first, and the piece. 65535 for a length ends
 the line, and what follows is a line of its own. 65534 for a length at a line's beginning says that the line is in exchanged order.
@@ -13,7 +13,6 @@ from typing import List, NamedTuple
 
 sys.dont_write_bytecode = True  # leaves no files behind
 
-import command_cases
 import line
 import listing
 import long_telegrams
@@ -23,8 +22,6 @@ import second_60
 import stray_runs
 import trailers
 import unnamed
-from command_telegrams import telegram_of
-from commands import LETTERS, is_command
 from layouts import EXCHANGED, LAYOUTS, ORDERS, other_order
 
 SEED = 6036
@@ -38,7 +35,6 @@ STX, ETX = b"\x02", b"\x03"
 BYTES = 60_000
 AT_LEAST = 4
 WANTED = list(LAYOUTS) + [1, 3, 4, 5, 6, 7, 8, 9, 10, 11]
-UNKNOWN = 22   # what comes of a telegram that is damaged to a colon in fifth place
 
 # What has to come so often of telegrams with second 60 or above, accepted ones as 0.
 WANTED_60 = [("dated", 0), ("dated", 5), ("dated", 6), ("dated", 8), ("time-only", 0), ("time-only", 6)]
@@ -46,11 +42,6 @@ WANTED_60 = [("dated", 0), ("dated", 5), ("dated", 6), ("dated", 8), ("time-only
 # What has to occur so often among the pieces: see `kinds_of`.
 WANTED_PIECES = ["empty", "one byte", "longest", "ends behind STX", "ends before ETX", "ends behind ETX", "ends inside", "ends outside",
                  "32 events", "more than 32 events"]
-
-# Each layout, each kind of command and each refusal has to occur so often on lines with commands; of commands alone these refusals.
-WANTED_WITH_COMMANDS = WANTED + list(LETTERS) + [UNKNOWN]
-REFUSALS_OF_COMMANDS = [1, 3, 4, 5, 6, 7, 8, UNKNOWN]
-OFTEN = 8
 
 # What has to come so often of telegrams in the order that the line does not have.
 WANTED_MIXED = [3, "6021t", "5500t"]
@@ -158,10 +149,8 @@ def handed_over(a_line):
 # --- what has to occur ---
 
 def kind_of(event):
-    """An event's refusal, its record's layout, or its command's type."""
-    if isinstance(event.outcome, int):
-        return event.outcome
-    return type(event.outcome) if is_command(event.outcome) else event.outcome.layout
+    """An event's refusal, or its record's layout."""
+    return event.outcome if isinstance(event.outcome, int) else event.outcome.layout
 
 
 def kinds_of(order, pieces):
@@ -198,7 +187,7 @@ def check(lines):
     rare = [kind for wanted, there in ((WANTED, events), (WANTED_PIECES, cuts), (WANTED_60, seconds)) for kind in wanted
             if there[kind] < AT_LEAST]
     wrong = {(kind_of(event), event.length) for some in found for event in some if long_telegrams.length_is_wrong(event)}
-    if rare or wrong or size < BYTES or set(events) - {*WANTED, UNKNOWN} or set(seconds) - {None, *WANTED_60}:
+    if rare or wrong or size < BYTES or set(events) - set(WANTED) or set(seconds) - {None, *WANTED_60}:
         raise AssertionError(f"lines of {size} bytes: too rare {rare}, events {dict(events)}, pieces {dict(cuts)}, "
                              f"seconds 60 {dict(seconds)}, wrong lengths {wrong}")
 
@@ -212,28 +201,8 @@ def changed_by_order(a_line):
 def check_mixed(lines):
     """Fails where the order changes too little of what comes of mixed lines, or something that does not depend on it."""
     changed = collections.Counter(kind for a_line in lines for kind in changed_by_order(a_line))
-    if any(changed[kind] < AT_LEAST for kind in WANTED_MIXED) or set(changed) & {1, 2, 9, 10, 11, UNKNOWN}:
+    if any(changed[kind] < AT_LEAST for kind in WANTED_MIXED) or set(changed) & {1, 2, 9, 10, 11}:
         raise AssertionError(f"lines of mixed orders: changed by the order {dict(changed)}")
-
-
-def refusals_of_commands(a_line):
-    """The refusal of each telegram that has a colon in fifth place."""
-    for start, length, result in listing.events_of(a_line.captured, a_line.order)[0]:
-        if isinstance(result, int) and length > 5 and a_line.captured[start + 4:start + 5] == b":":
-            yield result
-
-
-def check_commands(lines):
-    """Fails where something that lines with commands have to have is rare, or where the other order would change what comes of a
-    command."""
-    events = collections.Counter(kind_of(event) for a_line in lines for event in listing.events_of(a_line.captured, a_line.order)[0])
-    refusals = collections.Counter(number for a_line in lines for number in refusals_of_commands(a_line))
-    changed = {kind for a_line in lines for kind in changed_by_order(a_line)}
-    rare = [kind for kind in WANTED_WITH_COMMANDS if events[kind] < AT_LEAST]
-    rare += [number for number in REFUSALS_OF_COMMANDS if refusals[number] < OFTEN]
-    if rare or changed & {*LETTERS, UNKNOWN}:
-        raise AssertionError(f"lines with commands: too rare {rare}, events {dict(events)}, refusals {dict(refusals)}, "
-                             f"changed {changed}")
 
 
 # --- every line ---
@@ -279,31 +248,9 @@ def lines_with_long_telegrams(order, seed):
         yield Line(order, pieces_of(dice, captured, cuts))
 
 
-def all_among_all(order):
-    """Every kind of command behind every layout, without a byte between them."""
-    return b"".join(telegram + telegram_of(command) for telegram in trailers.good_ones(True, order)
-                    for command in command_cases.one_of_each())
-
-
-def lines_with_commands(order, seed):
-    """Damaged lines of commands, alone and among telegrams of an order, cut in each way; every kind behind every layout; the refused
-    ones by hand; the sample; and some that end inside a command."""
-    dice = random.Random(seed)
-    for number, (cuts, _, _) in enumerate(CUTS):
-        some = (command_cases.some_message, command_cases.some_command)[number % 2]
-        yield Line(order, pieces_of(dice, damaged_line(dice, 1200, making.in_order(some, order)), cuts))
-    for captured in [all_among_all(order), *samples.WITH_COMMANDS.values()]:
-        yield Line(order, pieces_of(dice, captured, by_length))
-    refused = [telegram for telegram in command_cases.refused_ones(dice) if telegram[:1] == STX]
-    refused += itertools.islice(command_cases.each_place_wrong(), 0, None, 8)
-    yield Line(order, pieces_of(dice, b"".join(refused + command_cases.colon_in_fifth_place(order)), by_length))
-    position = telegram_of(command_cases.one_of_each()[4])
-    yield from (Line(order, [position[:size]]) for size in range(4, len(position), 5))
-
-
 # The lines of each order: what makes them, and what checks those that it made.
 KINDS = [(damaged_lines, check), (mixed_lines, check_mixed), (lines_with_runs, stray_runs.check),
-         (lines_with_long_telegrams, long_telegrams.check), (lines_with_commands, check_commands)]
+         (lines_with_long_telegrams, long_telegrams.check)]
 
 
 def all_lines(seed=SEED):

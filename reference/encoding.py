@@ -4,7 +4,6 @@ A case is a letter, a length of two bytes, the higher first, and that many bytes
 behind it: a refusal is its number, and anything else is 0 and its values. The heads of the program's files say the same.
 """
 
-from commands import Dif, DifAsked, Pos, PosAsked, Tim, TimAsked, is_command
 from layouts import ORDERS, TIME_ONLY
 from places import CODE, DECIMAL, FIXED
 from records import UtcSeconds, is_time_only
@@ -15,8 +14,6 @@ LAYOUT_NUMBERS = ["6021", "2000", "5500", "5050", "6021t", "5500t", "5050t"]
 PARITY_NUMBERS = ["none", "even", "odd"]
 ASKED_NUMBERS = [TIME, TIME_AND_DATE, UTC_TIME_AND_DATE]
 FIRST_PLACE = {FIXED: 0, DECIMAL: 128, CODE: 160}
-COMMAND_KINDS = [Tim, TimAsked, Dif, DifAsked, Pos, PosAsked]
-A_COMMAND = 255   # where an outcome is handed over, for one that is a command; else stands a refusal, or 0 for a record
 
 
 # --- what goes in ---
@@ -88,43 +85,6 @@ def leitch_bytes(answer):
     return time + date_bytes(answer) + answer.day_of_year.to_bytes(2, "big") + bytes([answer.weekday, answer.status])
 
 
-def angle_numbers(angle):
-    """Degrees, minutes, fraction."""
-    return [angle.degrees, angle.minutes, angle.fraction]
-
-
-def pos_numbers(pos):
-    """0 west or 1 east and the longitude, 0 north or 1 south and the latitude."""
-    return ["WE".index(pos.west_or_east), *angle_numbers(pos.longitude), "NS".index(pos.north_or_south), *angle_numbers(pos.latitude)]
-
-
-def kind_number(command):
-    """0 TIM, 1 TIM asked, 2 DIF, 3 DIF asked, 4 POS, 5 POS asked."""
-    return COMMAND_KINDS.index(type(command))
-
-
-def command_bytes(command):
-    """The kind and its fields: status, time, date and weekday; the status; 1 for a minus, then hours and minutes of up to 255 each;
-    the position."""
-    kind = bytes([kind_number(command)])
-    if isinstance(command, Tim):
-        time = bytes([command.hour, command.minute, command.second])
-        return kind + bytes([command.status]) + time + date_bytes(command) + bytes([command.weekday])
-    if isinstance(command, TimAsked):
-        return kind + bytes([command.status])
-    if isinstance(command, Dif):
-        hours = min(abs(command.minutes) // 60, 255)
-        return kind + bytes([command.minutes < 0, hours, abs(command.minutes) - 60 * hours])
-    return kind + bytes(pos_numbers(command)) if isinstance(command, Pos) else kind
-
-
-def outcome_bytes(outcome):
-    """An event's outcome: a refusal's number; 0 and a record; 255 and a command."""
-    if isinstance(outcome, int):
-        return bytes([outcome])
-    return bytes([A_COMMAND]) + command_bytes(outcome) if is_command(outcome) else b"\0" + record_bytes(outcome)
-
-
 # --- what comes out ---
 
 def line(numbers):
@@ -146,24 +106,6 @@ def record_numbers(record):
     return [layout_number(record.layout)] + flags + [record.weekday, record.year, record.month, record.day] + time
 
 
-def command_numbers(command):
-    """A command's kind and fields; a difference is 1 for a minus and the number of minutes."""
-    kind = [kind_number(command)]
-    if isinstance(command, Tim):
-        time = [command.hour, command.minute, command.second]
-        return kind + [command.status] + time + [command.year, command.month, command.day, command.weekday]
-    if isinstance(command, TimAsked):
-        return kind + [command.status]
-    if isinstance(command, Dif):
-        return kind + [command.minutes < 0, abs(command.minutes)]
-    return kind + pos_numbers(command) if isinstance(command, Pos) else kind
-
-
-def message_numbers(message):
-    """A record, which begins with its layout; or 1, which is no layout, and a command."""
-    return [1] + command_numbers(message) if is_command(message) else record_numbers(message)
-
-
 def answer_numbers(value, refusal, numbers):
     """0 and the numbers of a value, or the refusal."""
     return [0] + numbers(value) if refusal is None else [refusal]
@@ -178,7 +120,7 @@ def event_numbers(event):
     """An event: 1, its position, its length and its outcome; no event is 0."""
     if event is None:
         return [0]
-    outcome = [event.outcome] if isinstance(event.outcome, int) else [0] + message_numbers(event.outcome)
+    outcome = [event.outcome] if isinstance(event.outcome, int) else [0] + record_numbers(event.outcome)
     return [1, event.start, event.length] + outcome
 
 

@@ -1,10 +1,11 @@
 """The line reader, byte by byte, as a value that is handed in and handed back."""
 
-from typing import Any, NamedTuple, Optional, Tuple
+from typing import NamedTuple, Optional, Tuple, Union
 
 from layouts import AS_PRINTED, ETX, STX
-from messages import judged
+from records import Dated, TimeOnly
 from refusals import ENDED_INSIDE, STATE, STX_INSIDE, TOO_LONG, Refused
+from telegrams import judged
 
 PLACES = 38      # the most bytes that the reader holds; a telegram has at most one more
 AT_A_TIME = 32   # the most events that are handed on at a time
@@ -23,10 +24,10 @@ class State(NamedTuple):
 
 
 class Event(NamedTuple):
-    """Position of the first byte, number of bytes, and a record, a remote command or a refusal number."""
+    """Position of the first byte, number of bytes, and a record or a refusal number."""
     start: int
     length: int
-    outcome: Any
+    outcome: Union[Dated, TimeOnly, int]
 
 
 class Fed(NamedTuple):
@@ -119,9 +120,9 @@ def event_of(state, length, outcome):
 
 
 def outcome_of(telegram, order):
-    """The record or the command of an ended telegram in the line's order, or the number it is refused with."""
-    message, number = judged(telegram, order)
-    return message if number is None else number
+    """The record of an ended telegram in the line's order, or the number it is refused with."""
+    record, number = judged(telegram, True, order)
+    return record if number is None else number
 
 
 def take_outside(state, byte, fed):

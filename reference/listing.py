@@ -5,10 +5,8 @@ import sys
 sys.dont_write_bytecode = True  # leaves no files behind
 
 import line
-from commands import is_command, letters_of
 from layouts import AS_PRINTED, EXCHANGED
-from messages import check_message
-from records import is_time_only
+from records import check_record, is_time_only
 from refusals import BUFFER, Refused
 
 HEADER = b"start;kind;date;time;weekday;status\n"
@@ -24,11 +22,8 @@ def status_words(record):
     return ",".join(words)
 
 
-def columns_of(start, message):
-    """The six columns of a record, of which a time-only one has three empty as -; or of a command, which has its three letters."""
-    if is_command(message):
-        return [str(start), letters_of(message), "-", "-", "-", "-"]
-    record = message
+def columns_of(start, record):
+    """The six columns of a record; a time-only one has three of them empty as -."""
     time = f"{record.hour:02}:{record.minute:02}:{record.second:02}"
     if is_time_only(record):
         return [str(start), record.layout, "-", time, "-", "-"]
@@ -37,7 +32,7 @@ def columns_of(start, message):
 
 
 def row(event):
-    """The row of one event: a record or a command, or two columns with the refusal's number."""
+    """The row of one event: a record, or two columns with the refusal's number."""
     if isinstance(event.outcome, int):
         columns = [str(event.start), f"refused {event.outcome}"]
     else:
@@ -66,9 +61,9 @@ def write_header(buffer):
 
 
 def write_row(event, buffer):
-    """The row of an event. A record or a command that no telegram could carry has none: 5 to 8, then 13."""
+    """The row of an event. A record that no telegram could carry has none: 5 to 8, then 13."""
     if not isinstance(event.outcome, int):
-        check_message(event.outcome)
+        check_record(event.outcome)
     return lay(row(event), buffer)
 
 

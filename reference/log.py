@@ -1,15 +1,15 @@
 """The delivery log: accepted telegrams in blocks of 512 bytes, over a region of whole blocks that the caller lends.
 
 A block has 15 slots of 32 bytes, then the number of slots used, zeros, and a check. Blocks and slots are counted from 0. Telegrams
-are in as-printed order only. Remote commands may be kept too.
+are in as-printed order only.
 """
 
 import functools
 import operator
 from typing import NamedTuple, Optional
 
-from messages import read_message
 from refusals import BAD_BLOCK, NO_FREE_SLOT, NO_TELEGRAM, WHOLE_BLOCKS, Refused, outcome
+from telegrams import read_telegram
 
 BLOCK = 512              # bytes of a block
 SLOTS, SLOT = 15, 32     # slots of a block, bytes of a slot
@@ -76,7 +76,7 @@ def lengths_fit(block):
 @functools.lru_cache(maxsize=4096)
 def reads_well(telegram):
     """A telegram that is accepted, with control characters, as printed."""
-    return outcome(read_message, telegram)[1] is None
+    return outcome(read_telegram, telegram, True)[1] is None
 
 
 def telegrams_read(block):
@@ -157,7 +157,7 @@ def place_for_add(region):
 def add(region, telegram):
     """Puts a telegram into the region and gives its place: the telegram's own refusal, then 19, then 21. Refused, the region stays as
     it stood; otherwise one block's slot, number and check change."""
-    read_message(telegram)
+    read_telegram(telegram, True)
     check_whole(region)
     place = place_for_add(region)
     start = BLOCK * place.block

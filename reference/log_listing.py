@@ -8,8 +8,8 @@ sys.dont_write_bytecode = True  # leaves no files behind
 import log
 from listing import columns_of
 from log import BLOCK, COUNT_AT
-from messages import read_message
 from refusals import BAD_BLOCK, WHOLE_BLOCKS
+from telegrams import read_telegram
 
 VERIFY_HEADER = b"block;offset;state;telegrams\n"
 LOG_HEADER = b"block;slot;kind;date;time;weekday;status\n"
@@ -55,7 +55,7 @@ def telegram_rows(number, block):
     if not log.is_good(block):
         return row(number, refused(BAD_BLOCK))
     telegrams = map(log.telegram_in, log.used_of(block))
-    return b"".join(row(number, *columns_of(slot, read_message(telegram))) for slot, telegram in enumerate(telegrams))
+    return b"".join(row(number, *columns_of(slot, read_telegram(telegram, True))) for slot, telegram in enumerate(telegrams))
 
 
 def log_listing(kept):

@@ -11,7 +11,7 @@ import re
 import layouts
 import listing
 import making
-from refusals import ENDED_INSIDE, LENGTH, STX_INSIDE, TOO_LONG, UNKNOWN_COMMAND
+from refusals import ENDED_INSIDE, LENGTH, STX_INSIDE, TOO_LONG
 
 STX, ETX = b"\x02", b"\x03"
 
@@ -95,10 +95,7 @@ def found_in(captured):
 
 
 def is_as_wanted(event, length, ending):
-    """What should come of a telegram came of it. One of a length that a layout has may be anything that a judged one is. One that has
-    a colon in fifth place is an unknown command, whatever its length."""
-    if ending == "ETX" and event[1:] == (length, UNKNOWN_COMMAND):
-        return True
+    """What should come of a telegram came of it. One of a length that a layout has may be anything that a judged one is."""
     if ending == "more" or length > (LONGEST if ending == "ETX" else MOST_HELD):
         return event[1:] == (LONGEST, TOO_LONG)
     if ending == "ETX" and layouts.layouts_of_length(length, True):

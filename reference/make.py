@@ -18,7 +18,6 @@ import months
 import sample_logs
 import samples
 from cases.seen import SEEN
-from layouts import AS_PRINTED
 
 ROOT = pathlib.Path(__file__).resolve().parent.parent
 
@@ -44,7 +43,7 @@ def made():
     yield "crates/measured/stdout", measured.printed(measured.GIVEN)
     yield "crates/dialspark/stdin", samples.PRINTED
     yield "crates/dialspark/stdout", listing.listing(samples.PRINTED)
-    for order, captured_ones in [*samples.IN_ORDER.items(), (AS_PRINTED, samples.WITH_COMMANDS)]:
+    for order, captured_ones in samples.IN_ORDER.items():
         for name, captured in captured_ones.items():
             yield f"samples/{name}.capture", captured
             yield f"samples/{name}.listing", listing.listing(captured, order)

@@ -15,7 +15,7 @@ from typing import NamedTuple, Optional
 sys.dont_write_bytecode = True  # leaves no files behind
 
 import listing
-import messages
+import telegrams
 from line import Event
 from refusals import Refused
 
@@ -113,14 +113,13 @@ IN_LAYOUTS = [
 # --- other time strings ---
 
 NOT_TUESDAY = "7.8.94 was a Sunday"
-COLON_FIFTH = "no STX; with control characters wanted, its fifth byte is a colon"
 
 OTHER_STRINGS = [
     example("001", "6.1.5.2", "SINEC H1", "(STX)D:03.01.96;T:3;U:12.34.56;____(ETX)",
             "radio, not announced, standard, Wednesday 3.1.96 12:34:56", True,
             "blanks between the underscores are typographic", "1"),
     example("001", "6.1.6.1", "T-String", "T:96:01:03:03:12:34:56(CR)(LF)",
-            "Wednesday 3.1.96 12:34:56", True, COLON_FIFTH, "22"),
+            "Wednesday 3.1.96 12:34:56", True, "", "1"),
     example("001", "6.1.7.2", "Master/Slave", "(STX)831234560301968230(LF)(CR)(ETX)",
             "radio, not announced, standard, Wednesday 3.1.96 12:34:56, difference +2.30",
             True, "", "1"),
@@ -133,7 +132,7 @@ OTHER_STRINGS = [
             "b3 radio and b2 leap second announced",
             "6021;1996-01-03;12:34:56;3;radio,standard"),
     example("002", "3.8.1", "T-String", "T:96:01:03:03:12:34:56(CR)(LF)",
-            "Wednesday 3.1.96 12:34:56", True, COLON_FIFTH, "22"),
+            "Wednesday 3.1.96 12:34:56", True, "", "1"),
     example("002", "3.9.2", "Date/Time", "(STX)960103123456(ETX)",
             "daylight, not announced, Wednesday 3.1.96 12:34:56", False,
             "the string has neither status nor weekday; blanks are typographic", "1"),
@@ -144,7 +143,7 @@ OTHER_STRINGS = [
     example("002", "3.12.2", "Sysplex Timer", "(SOH)050:12:34:56_(CR)(LF)",
             "radio, 12:34:56, 50th day of the year", True,
             "the table names SOH but prints hex 02; blanks around the underscore are "
-            "typographic; " + COLON_FIFTH, "22"),
+            "typographic", "1"),
     example("002", "3.16.2", "H&B", "(STX)12_34_56_03_01_96_03(CR)(LF)",
             "crystal, not announced, standard, Wednesday 3.1.96 12:34:56", False,
             "status 0 has b0 clear: radio; the table has no STX, without it 1 as well; blank "
@@ -153,8 +152,7 @@ OTHER_STRINGS = [
             "radio, not announced, standard, Wednesday 3.1.96 12:34:56, difference +2.30",
             True, "", "1"),
     example("002", "3.28.1", "IRIG J-1x", "(SOH)034:12:34:56(CR)(LF)",
-            "34th day of the year, 12:34:56", True,
-            "blank before CR is typographic; " + COLON_FIFTH, "22"),
+            "34th day of the year, 12:34:56", True, "blank before CR is typographic", "1"),
     example("002", "3.31.2", "BEXBACH", "(STX)D:03.01.96;T:3;U:12:34:56;____(ETX)",
             "radio, not announced, standard, Wednesday 3.1.96 12:34:56", True,
             "blank before the underscores is typographic", "1"),
@@ -224,67 +222,66 @@ SPELLED_OUT_COMMANDS = [
 
 # --- remote functions of the 6038 ---
 # All blanks in these strings are typographic: command, status and data follow one another,
-# as the character tables and the examples of PAR, MOD, MO1 and ADR show. Every TIM with a
-# date has a wrong weekday in print, so each is refused with 8. SAT, RES, PAR, MOD, MO1 and
-# ADR are not asked for: 22.
+# as the character tables and the examples of PAR, MOD, MO1 and ADR show.
 
 NOT_SUNDAY_99 = "7.8.99 was a Saturday"
 NOT_SUNDAY_96 = "23.9.96 was a Monday"
 BIT_3 = "hex %s has bit 3 set, which the bit table calls daylight"
-TIM, DIF, POS = (letters + ";-;-;-;-" for letters in ("TIM", "DIF", "POS"))
+FALLS_IN_5500T = "ten bytes with CR LF: judged as 5500t, its letters are no digits"
+FALLS_IN_5500 = "21 bytes: judged as 5500, no space in place 3"
 
 REMOTE_COMMANDS = [
     example("003", "7.1.2", "TIM set", "(STX)TIM:48,12,34,56,07,08,99,7(CR)(LF)(ETX)",
             "set standard, Sunday 7.8.99 12:34:56", False,
-            NOT_SUNDAY_99 + "; " + BIT_3 % "48", "8"),
+            NOT_SUNDAY_99 + "; " + BIT_3 % "48", "1"),
     example("003", "7.1.2", "TIM answer", "(STX)TIM:48,12,34,56,07,08,99,7(CR)(LF)(ETX)",
-            "the same, taken over", False, NOT_SUNDAY_99 + "; " + BIT_3 % "48", "8"),
+            "the same, taken over", False, NOT_SUNDAY_99 + "; " + BIT_3 % "48", "1"),
     example("003", "7.1.3", "TIM request", "(STX)TIM:40(CR)(LF)(ETX)",
-            "UTC wanted", True, "", TIM),
+            "UTC wanted", True, FALLS_IN_5500T, "4"),
     example("003", "7.1.3", "TIM answer", "(STX)TIM:40,10,34,56,07,08,99,7(CR)(LF)(ETX)",
-            "Sunday 7.8.99 10:34:56 UTC", False, NOT_SUNDAY_99, "8"),
+            "Sunday 7.8.99 10:34:56 UTC", False, NOT_SUNDAY_99, "1"),
     example("003", "7.1.4", "TIM set", "(STX)TIM:4A,02,00,00,23,09,96,7(CR)(LF)(ETX)",
             "standard changeover, Sunday 23.9.96 02:00:00", False,
-            NOT_SUNDAY_96 + "; " + BIT_3 % "4A", "8"),
+            NOT_SUNDAY_96 + "; " + BIT_3 % "4A", "1"),
     example("003", "7.1.4", "TIM answer", "(STX)TIM:4B,02,00,00,23,09,96,7(CR)(LF)(ETX)",
             "standard changeover, taken over", False,
-            NOT_SUNDAY_96 + "; " + BIT_3 % "4B" + "; bit 0 set means carried out in it", "8"),
+            NOT_SUNDAY_96 + "; " + BIT_3 % "4B" + "; bit 0 set means carried out in it", "1"),
     example("003", "7.1.5", "TIM request", "(STX)TIM:52(CR)(LF)(ETX)",
-            "standard changeover wanted", True, "", TIM),
+            "standard changeover wanted", True, FALLS_IN_5500T, "4"),
     example("003", "7.1.5", "TIM answer", "(STX)TIM:53,02,00,00,23,09,96,7(CR)(LF)(ETX)",
             "standard changeover still to come, Sunday 23.9.96 02:00:00", False,
-            NOT_SUNDAY_96 + "; bit 0 set means carried out in the bit table", "8"),
+            NOT_SUNDAY_96 + "; bit 0 set means carried out in the bit table", "1"),
     example("003", "7.1.6", "DIF set", "(STX)DIF:-01,00(CR)(LF)(ETX)",
-            "difference local to UTC of 1 hour", True, "", DIF),
+            "difference local to UTC of 1 hour", True, "", "1"),
     example("003", "7.1.6", "DIF request", "(STX)DIF:(CR)(LF)(ETX)", "difference wanted",
-            True, "", DIF),
+            True, "", "1"),
     example("003", "7.1.6", "DIF answer", "(STX)DIF:-01,00(CR)(LF)(ETX)",
-            "the new difference", True, "", DIF),
+            "the new difference", True, "", "1"),
     example("003", "7.1.6", "DIF request", "(STX)DIF:(CR)(LF)(ETX)", "difference wanted",
-            True, "printed twice", DIF),
+            True, "printed twice", "1"),
     example("003", "7.1.6", "DIF answer", "(STX)DIF:+02,00(CR)(LF)(ETX)",
-            "the new difference", True, "", DIF),
+            "the new difference", True, "", "1"),
     example("003", "7.1.7", "POS set", "(STX)POS:E:007,33,34,N:53,12,21(CR)(LF)(ETX)",
-            "set position", True, "", POS),
+            "set position", True, "", "1"),
     example("003", "7.1.8", "SAT request", "(STX)SAT:(CR)(LF)(ETX)", "satellites wanted",
-            True, "", "22"),
+            True, "", "1"),
     example("003", "7.1.8", "SAT answer",
             "(STX)SAT:08,S:07/143,S:12/145,S:23/034,S:14/145,S:03/123,S:19/047(CR)(LF)(ETX)",
             "satellites and signal ratios", None,
-            "the table has T: and one digit where the example has two digits", "22"),
-    example("003", "7.1.9", "RES", "(STX)RES:(CR)(LF)(ETX)", "reset", True, "", "22"),
+            "the table has T: and one digit where the example has two digits", "1"),
+    example("003", "7.1.9", "RES", "(STX)RES:(CR)(LF)(ETX)", "reset", True, "", "1"),
     example("003", "7.1.9", "RES answer", "(STX)RES:(CR)(LF)(ETX)", "reset follows", True,
-            "", "22"),
+            "", "1"),
     example("003", "7.1.10", "PAR set", "(STX)PAR:09600,N,8,1,N(CR)(LF)(ETX)",
-            "9600 baud, no parity, 8 data bits, 1 stop bit", True, "", "22"),
+            "9600 baud, no parity, 8 data bits, 1 stop bit", True, FALLS_IN_5500, "3"),
     example("003", "7.1.11", "MOD set", "(STX)MOD:1,1,1,1,1,0,0,0,(CR)(LF)(ETX)",
             "every second, control characters, ETX at once, 6021, no advance, with date",
-            True, "the table has 14 characters of data, the example 16", "22"),
+            True, "the table has 14 characters of data, the example 16", "1"),
     example("003", "7.1.12", "MO1 set", "(STX)MO1:1,1,0,0,0,0,0,0,(CR)(LF)(ETX)",
             "local time, CR before LF", True,
-            "the table has 14 characters of data, the example 16", "22"),
+            "the table has 14 characters of data, the example 16", "1"),
     example("003", "7.1.13", "ADR set", "(STX)ADR:0280(CR)(LF)(ETX)", "port address 0x280",
-            True, "", "22"),
+            True, "", "1"),
 ]
 
 # --- kinds with a character table and no printed example ---
@@ -324,15 +321,15 @@ PARAMETER_EXAMPLES_6038 = [("003", "1.1", 0xA6)]
 # --- what they read as ---
 
 def reads_as(an_example):
-    """The record or the command of an example with control characters wanted, or the number."""
+    """The record of an example with control characters wanted, or the number."""
     try:
-        return messages.read_message(an_example.telegram)
+        return telegrams.read_telegram(an_example.telegram, True)
     except Refused as refused:
         return refused.number
 
 
 def in_words(outcome):
-    """A number as it is, a record or a command as its listing row without the start."""
+    """A number as it is, a record as its listing row without the start."""
     if isinstance(outcome, int):
         return str(outcome)
     return listing.row(Event(0, 0, outcome)).decode("ascii").strip().split(";", 1)[1]

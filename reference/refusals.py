@@ -1,13 +1,13 @@
-"""Refusal numbers, and the rule that of several that hold the lowest is given. Of a remote command 22 is given first."""
+"""Refusal numbers, and the rule that of several that hold the lowest is given."""
 
 import functools
 
-LENGTH = 1             # the length is none of the table's, or none of the command's
+LENGTH = 1             # the length is none of the table's
 FRAME = 2              # STX or ETX was wanted and is not at its end
-FIXED_PLACE = 3        # a space, colon, point, slash, comma, sign, letter, CR or LF is not in its place
+FIXED_PLACE = 3        # a space, colon, point, slash, CR or LF of the layout is not in its place
 DECIMAL_PLACE = 4      # a decimal place holds something other than 0 to 9
 STATUS_OR_WEEKDAY = 5  # status or weekday that the layout does not allow
-RANGE = 6              # hour, minute, second, day, month or year out of range; difference, longitude or latitude
+RANGE = 6              # hour, minute, second, day, month or year out of range
 NO_SUCH_DAY = 7        # the month has no such day
 WEEKDAY = 8            # the weekday is not the date's
 STX_INSIDE = 9         # line: a telegram begins inside another
@@ -23,7 +23,6 @@ REQUEST = 18           # the bytes are no request
 WHOLE_BLOCKS = 19      # log: the region is not whole blocks
 BAD_BLOCK = 20         # log: the block is bad
 NO_FREE_SLOT = 21      # log: no free slot behind the last one used
-UNKNOWN_COMMAND = 22   # a remote command that is none of TIM, DIF and POS
 NO_TELEGRAM = 27       # log: no telegram at that block and slot
 
 

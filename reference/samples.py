@@ -71,23 +71,6 @@ def exchanged():
     ])
 
 
-def conversation():
-    """A computer talks to a board, and both are on the line. The board sends its time every second. Asked for UTC, it answers with a
-    TIM, and its time telegrams come again after a quarter of a minute. Then local time, the difference and the position are asked for
-    and answered. A time is sent to be set as the manual prints it, whose weekday is wrong. The satellites are asked for, which is
-    none of the three commands, and the answer is longer than any telegram."""
-    return b"".join([
-        stamp_6021(b"E6123454070899"), stamp_6021(b"E6123455070899"),
-        framed(b"TIM:40" + CR_LF), framed(b"TIM:C0,10,34,57,07,08,99,6" + CR_LF),
-        stamp_6021(b"E6123512070899"), stamp_6021(b"E6123513070899"),
-        framed(b"TIM:48" + CR_LF), framed(b"TIM:C8,12,35,15,07,08,99,6" + CR_LF),
-        framed(b"DIF:" + CR_LF), framed(b"DIF:-01,00" + CR_LF), framed(b"POS:" + CR_LF), framed(b"POS:E:007,33,34,N:53,12,21" + CR_LF),
-        stamp_6021(b"E6123531070899"), framed(b"TIM:48,12,34,56,07,08,99,7" + CR_LF), stamp_6021(b"E6123548070899"),
-        framed(b"SAT:" + CR_LF), framed(b"SAT:08,S:07/143,S:12/145,S:23/034,S:14/145,S:03/123,S:19/047" + CR_LF),
-        stamp_6021(b"E6123604070899"),
-    ])
-
-
 # The capture whose listing the requirements document prints; selftest.py holds that listing.
 PRINTED = b"x" + stamp_6021(b"E3123456170496") + b"\x0212"
 
@@ -96,5 +79,3 @@ SAMPLES = {"winter": winter(), "nine-deliveries": nine_deliveries(), "pump-start
 
 # By the order of the line.
 IN_ORDER = {AS_PRINTED: SAMPLES, EXCHANGED: {"exchanged": exchanged()}}
-
-WITH_COMMANDS = {"conversation": conversation()}

@@ -11,7 +11,6 @@ import making
 import records
 import status
 import telegrams
-from command_telegrams import has_colon
 from layouts import AS_PRINTED
 from records import Dated, TimeOnly
 from refusals import NO_SUCH_DAY, RANGE, STATUS_OR_WEEKDAY, WEEKDAY
@@ -218,14 +217,13 @@ def in_record(record, refusal):
     return ("time-only" if isinstance(record, TimeOnly) else "dated", refusal or 0) if record.second >= 60 else None
 
 
-# Whatever else it is refused with, a telegram has no digits in known places, or it is no whole one. A remote command is none of the
-# seven layouts.
+# Whatever else it is refused with, a telegram has no digits in known places, or it is no whole one.
 SPELLED = (None, STATUS_OR_WEEKDAY, RANGE, NO_SUCH_DAY, WEEKDAY)
 
 
 def in_telegram(telegram, control, refusal, order=AS_PRINTED):
     """The same of a telegram that was read in that order, right or wrong; None also where it spells no second."""
-    if refusal not in SPELLED or control and has_colon(telegram):
+    if refusal not in SPELLED:
         return None
     layout = telegrams.layout_of(telegram, control, order)
     if telegrams.numbers_of(layout, telegrams.between(telegram, control))["second"] < 60:

@@ -11,7 +11,7 @@ import sys
 sys.dont_write_bytecode = True  # leaves no files behind
 
 from layouts import ORDERS
-from selftests import (calendar, commands, document, kept_states, leitch_answer, lines, logs, longest, no_setting, parameter_bytes,
+from selftests import (calendar, document, kept_states, leitch_answer, lines, logs, longest, no_setting, parameter_bytes,
                        places_and_rows, reading, requests, seconds, trailer_order, writing, wrong_rules)
 from selftests.checking import counts
 
@@ -54,7 +54,6 @@ def main():
     kept_states.every_word()
     wrong_rules.changed_rules(dice)
     wrong_rules.changed_bounds()
-    wrong_rules.changed_commands(dice)
     trailer_order.orders_by_hand()
     trailer_order.telegrams_of_the_cases()
     trailer_order.orders_of_writing(dice, 3000)
@@ -76,12 +75,6 @@ def main():
     leitch_answer.leitch_writes(dice)
     requests.requests_by_pattern(dice)
     requests.requests_of_the_manuals()
-    commands.commands_by_hand()
-    commands.commands_by_pattern(dice, 20000)
-    commands.commands_in_memory(dice, 2000)
-    commands.fifth_byte(dice, 2000)
-    commands.commands_on_a_line()
-    commands.commands_listed(dice)
     logs.log_by_hand()
     logs.log_blocks(dice, 6)
     logs.log_single_bytes(dice)

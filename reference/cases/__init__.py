@@ -4,7 +4,6 @@ import random
 
 import stray_runs
 from cases.bound import AROUND_THE_BOUND, bound_cases, every_length_cases, judged_cases, take_over_cases, taken_over_cases
-from cases.commands import command_cases_of_all
 from cases.dates_and_times import calendar_cases, time_cases
 from cases.leitch_and_requests import leitch_and_request_cases
 from cases.lines import line_cases, long_pieces, manual_examples_on_lines, stray_run_cases
@@ -64,4 +63,3 @@ def all_cases(seed=SEED):
     for order in ORDERS:
         yield from taken_over_cases(dice, order)
     yield from manual_examples_on_lines()
-    yield from command_cases_of_all(dice)

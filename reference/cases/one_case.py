@@ -1,12 +1,9 @@
 """One case of each kind: the bytes that the program gets, and the line that it should print."""
 
-import command_telegrams
-import commands
 import days
 import leitch
 import line
 import listing
-import messages
 import parameter
 import parameter_6038
 import places
@@ -16,10 +13,10 @@ import takeover
 import telegrams
 import trailers
 from cases.seen import SEEN, kind_of
-from encoding import (LAYOUT_NUMBERS, answer_numbers, case, command_bytes, command_numbers, count_numbers, date_bytes, event_numbers,
-                      layout_number, leitch_bytes, line as printed, message_numbers, order_number, outcome_bytes, parameter_bytes,
-                      parameter_bytes_6038, parameter_numbers, parameter_numbers_6038, record_bytes, record_numbers, request_numbers,
-                      row_bytes, setting_number, state_bytes, state_numbers, trailers_numbers)
+from encoding import (LAYOUT_NUMBERS, answer_numbers, case, count_numbers, date_bytes, event_numbers, layout_number, leitch_bytes,
+                      line as printed, order_number, parameter_bytes, parameter_bytes_6038, parameter_numbers,
+                      parameter_numbers_6038, record_bytes, record_numbers, request_numbers, row_bytes, setting_number, state_bytes,
+                      state_numbers, trailers_numbers)
 from layouts import STATUS_AS_6021
 from records import LocalSeconds
 from refusals import DECIMAL_PLACE, FIXED_PLACE, LENGTH, outcome
@@ -318,10 +315,11 @@ def header_case(room):
 
 
 def row_case(start, answer, room):
-    """A row of the listing to write: of a record, of a command, or of a refusal's number."""
+    """A row of the listing to write: of a record, or of a refusal's number."""
+    handed = bytes([answer]) if isinstance(answer, int) else b"\0" + record_bytes(answer)
     event = line.Event(start, 0, answer)
-    given = start.to_bytes(4, "big") + bytes([room]) + outcome_bytes(answer)
-    record = None if isinstance(answer, int) or commands.is_command(answer) else answer
+    given = start.to_bytes(4, "big") + bytes([room]) + handed
+    record = None if isinstance(answer, int) else answer
     return in_buffer("G", given, room, ROW, lambda buffer: listing.write_row(event, buffer), record)
 
 
@@ -349,28 +347,3 @@ def leitch_write_case(answer, room):
 def request_case(text):
     """Bytes to read as a request."""
     return answered("q", text, outcome(request_letters.read_request, text), request_numbers)
-
-
-# --- remote commands and messages ---
-
-def command_read_case(telegram):
-    """Bytes to read as one remote command."""
-    return answered("c", telegram, outcome(command_telegrams.read_command, telegram), command_numbers)
-
-
-def command_write_case(command, room):
-    """A command to write into a buffer of so many bytes."""
-    given = bytes([room]) + command_bytes(command)
-    return in_buffer("v", given, room, ONE, lambda buffer: command_telegrams.write_command(command, buffer))
-
-
-def command_rule_case(command):
-    """A command to judge: its refusal, or 0."""
-    return answered("j", command_bytes(command), outcome(commands.check_command, command), lambda _: [])
-
-
-def message_case(telegram, order):
-    """Bytes to read as one message from a line of a named order."""
-    kind, answer = ("m", order), outcome(messages.read_message, telegram, order)
-    SEEN.message(kind, answer[0])
-    return answered(kind, bytes([order_number(order)]) + telegram, answer, message_numbers)

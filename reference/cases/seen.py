@@ -1,17 +1,15 @@
-"""What the cases have to meet: the refusals of each entry point, what can come of a second 60 there, the layouts and commands that are
-read."""
+"""What the cases have to meet: the refusals of each entry point, what can come of a second 60 there, the layouts that are read."""
 
 import collections
 
 import line
 import second_60
 import trailers
-from commands import LETTERS, is_command
 from layouts import AS_PRINTED, LAYOUTS, ORDERS
 
 RECORD = {5, 6, 7, 8}
 READING = {True: {1, 2, 3, 4, 5, 6, 7, 8}, False: {1, 3, 4, 5, 6, 7, 8}}   # with control characters and without
-ON_A_LINE = {1, 3, 4, 5, 6, 7, 8, 9, 10, 15, 22}
+ON_A_LINE = {1, 3, 4, 5, 6, 7, 8, 9, 10, 15}
 
 # How a write is set: without a setting, by one without an order, or by one with an order.
 NO_SETTING, NO_ORDER = "no setting", "no order"
@@ -37,7 +35,6 @@ OWN_REFUSALS = {
         ("g", set()), ("w", set()), ("F", ON_A_LINE), ("V", ON_A_LINE), ("E", {11, 15}), ("o", {15}))},
     "H": {13}, "G": RECORD | {13}, "X": {13},
     "y": {6, 7}, "l": {1, 3, 4, 17} | RECORD, "e": RECORD | {13, 17}, "q": {18},
-    "c": READING[True] | {22}, "v": RECORD | {13}, "j": RECORD, **{("m", order): READING[True] | {22} for order in ORDERS},
 }
 
 
@@ -64,14 +61,14 @@ SECOND_60 = {
     "l": dated(5, 6), "e": dated(5, 6),
 }
 
-# What has to be read in each order: each layout, and where messages are read each kind of command too.
-READ_IN_ORDERS = {**{(letter, *mode): {*LAYOUTS} for letter in "Yx" for mode in trailers.MODES},
-                  **{(letter, order): {*LAYOUTS, *LETTERS} for letter in "FVm" for order in ORDERS}}
+# Where each layout has to be read in each order.
+READ_IN_ORDERS = [*((letter, *mode) for letter in "Yx" for mode in trailers.MODES),
+                  *((letter, order) for letter in "FV" for order in ORDERS)]
 
 
 class Seen:
-    """How many cases each kind had, which refusals have occurred there, which layouts and commands have been read, and what has come of
-    seconds 60 and above. A kind is an entry point's letter, or begins with it."""
+    """How many cases each kind had, which refusals have occurred there, which layouts have been read, and what has come of seconds 60
+    and above. A kind is an entry point's letter, or begins with it."""
 
     def __init__(self):
         self.cases = collections.Counter()
@@ -96,11 +93,6 @@ class Seen:
         """A telegram that a case is about, and what came of it."""
         self.second_60[kind] |= {second_60.in_telegram(telegram, control, refusal, order)} - {None}
 
-    def message(self, kind, message):
-        """A message that was read, if any."""
-        if message is not None:
-            self.layouts[kind].add(type(message) if is_command(message) else message.layout)
-
     def events(self, kind, state, piece, events):
         """The telegrams of a piece's events, of which the state may hold the first bytes."""
         there = line.held_of(state) + piece
@@ -109,12 +101,12 @@ class Seen:
             refusal = event.outcome if isinstance(event.outcome, int) else None
             self.more(kind, refusal)
             self.telegram(kind, there[start:start + event.length], True, refusal, state.order)
-            self.message(kind, event.outcome if refusal is None else None)
+            if refusal is None:
+                self.layouts[kind].add(event.outcome.layout)
 
     def check(self):
         """Fails where a kind has no case, where a refusal never occurred, or one that the entry point does not give did; where
-        something that can come of a second 60 never did, or something that cannot did; and where a layout or a kind of command
-        was never read."""
+        something that can come of a second 60 never did, or something that cannot did; and where a layout was never read."""
         for kind, wanted in OWN_REFUSALS.items():
             if not self.cases[kind] or self.numbers[kind] != wanted:
                 raise AssertionError(f"case {kind}: {self.cases[kind]} cases, refusals {sorted(self.numbers[kind])}, "
@@ -123,8 +115,8 @@ class Seen:
             if self.second_60[kind] != wanted:
                 raise AssertionError(f"case {kind}: second 60 {sorted(self.second_60[kind])}, wanted {sorted(wanted)}")
         for kind, read in self.layouts.items():
-            if read != READ_IN_ORDERS[kind]:
-                raise AssertionError(f"case {kind}: not read {READ_IN_ORDERS[kind] - read}")
+            if read != set(LAYOUTS):
+                raise AssertionError(f"case {kind}: layouts {sorted(read)}")
 
 
 SEEN = Seen()

@@ -9,7 +9,6 @@ import random
 from log_scripts import kinds
 from log_scripts.by_dice import by_dice
 from log_scripts.by_hand import by_hand
-from log_scripts.commands import with_commands
 
 SEED = 512
 SCRIPTS = 6   # by dice
@@ -20,7 +19,6 @@ def all_scripts(seed=SEED):
     dice = random.Random(seed)
     yield from by_hand(dice)
     yield from (by_dice(dice) for _ in range(SCRIPTS))
-    yield from with_commands(dice)
 
 
 def steps_of(scripts):

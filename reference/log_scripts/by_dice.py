@@ -19,11 +19,10 @@ def some_place(script, dice):
 
 
 class Dealer:
-    """Operations by dice on a script, with accepted telegrams and with any, and what its pokes have changed, so that it can be
-    repaired."""
+    """Operations by dice on a script, and what its pokes have changed, so that it can be repaired."""
 
-    def __init__(self, script, dice, good, some):
-        self.script, self.dice, self.good, self.some, self.undo = script, dice, good, some, []
+    def __init__(self, script, dice):
+        self.script, self.dice, self.undo = script, dice, []
 
     def poke(self, place, value):
         if place < len(self.script.region):
@@ -62,10 +61,10 @@ class Dealer:
 
     def add(self):
         for _ in range(self.dice.choice([1, 1, 3, 20])):
-            self.script.add(self.good(self.dice))
+            self.script.add(good_telegram(self.dice))
 
     def add_some(self):
-        self.script.add(self.some(self.dice, self.dice.random() < 0.9))
+        self.script.add(making.some_telegram(self.dice, self.dice.random() < 0.9))
 
     def read(self):
         blocks = len(self.script.region) // BLOCK
@@ -83,13 +82,13 @@ class Dealer:
         self.dice.choices(list(chances), chances.values())[0]()
 
 
-def by_dice(dice, good=good_telegram, some=making.some_telegram):
-    """A script of a region of 0 to 8 blocks, seldom of another length, with such telegrams."""
+def by_dice(dice):
+    """A script of a region of 0 to 8 blocks, seldom of another length."""
     length = BLOCK * dice.randrange(9)
     if dice.random() < 0.1:
         length = dice.randrange(LONGEST + 1)
     script = Script(length)
-    dealer = Dealer(script, dice, good, some)
+    dealer = Dealer(script, dice)
     for _ in range(dice.randrange(20, 120)):
         dealer.one()
     script.verify()

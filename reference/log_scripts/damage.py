@@ -106,9 +106,9 @@ def rubbish(dice, block):
 
 # --- whole logs ---
 
-def some_block(dice, telegram=good_telegram):
-    """A block of any kind, with such telegrams."""
-    good = block_of([telegram(dice) for _ in range(dice.randrange(1, SLOTS + 1))])
+def some_block(dice):
+    """A block of any kind."""
+    good = block_of([good_telegram(dice) for _ in range(dice.randrange(1, SLOTS + 1))])
     kind = dice.random()
     if kind < 0.6:
         return good
@@ -117,7 +117,7 @@ def some_block(dice, telegram=good_telegram):
     return dice.choice(list(dice.choice([*DAMAGES, rubbish])(dice, good)))
 
 
-def some_log(dice, blocks, telegram=good_telegram):
-    """A log of so many blocks of any kind, with such telegrams, now and then with more bytes behind them."""
-    kept = b"".join(some_block(dice, telegram) for _ in range(blocks))
+def some_log(dice, blocks):
+    """A log of so many blocks of any kind, now and then with more bytes behind them."""
+    kept = b"".join(some_block(dice) for _ in range(blocks))
     return kept + dice.randbytes(dice.choice([0, 0, 1, 100, BLOCK - 1]))

@@ -2,10 +2,9 @@
 
 import layouts
 import log
-from commands import LETTERS, is_command
+from telegrams import layout_of
 
-OWN = range(1, 9)      # the refusals of a telegram of the seven layouts
-EVERY_OWN = (*OWN, 22)   # and of a command
+OWN = range(1, 9)   # the refusals of a telegram
 
 # Numbers of a block or a slot. 2^55 blocks are 2^64 bytes, and so are 2^59 slots.
 NUMBERS = (0, 1, 14, 15, 16, 255, 256, 2 ** 16, 2 ** 31, 2 ** 32 - 1, 2 ** 32, 2 ** 55 - 1, 2 ** 55, 2 ** 55 + 1, 2 ** 59,
@@ -34,7 +33,7 @@ def broken(block):
 
 def refusal_of(telegram):
     """What a telegram is refused with, or None."""
-    return log.outcome(log.read_message, telegram)[1]
+    return log.outcome(log.read_telegram, telegram, True)[1]
 
 
 def slot_holds(slot):
@@ -145,8 +144,7 @@ def of_add(region, telegram, place, refusal):
         yield from no_room(blocks, good)
     if refusal is not None:
         return
-    message = log.read_message(telegram)
-    yield "layout", type(message) if is_command(message) else message.layout
+    yield "layout", layout_of(telegram, True)
     yield from where_of_add(place, used)
     yield from (("gap before", filled(blocks[number])) for number in good if used and number < used[-1])
     yield from (("bad beside an add", side(number, place.block)) for number in range(len(blocks)) if number not in good)
@@ -214,10 +212,10 @@ def of_states(own, *last):
     return {("add", state, number) for state, refusal in last for number in [*own, refusal]}
 
 
-ADDS = of_states(EVERY_OWN, ("room", 0), ("odd", 19), ("full", 21), ("no blocks", 21), ("all bad", 21))
+ADDS = of_states(OWN, ("room", 0), ("odd", 19), ("full", 21), ("no blocks", 21), ("all bad", 21))
 
 ADDED = ({("filled", blocks) for blocks in range(1, 5)} | {("nothing behind", "bad"), ("nothing behind", "end")}
-         | {("layout", layout) for layout in [*layouts.LAYOUTS, *LETTERS]}
+         | {("layout", layout) for layout in layouts.LAYOUTS}
          | {("nothing used", "first block"), ("nothing used", "bad blocks before")}
          | {("next block", "right behind"), ("next block", "over bad ones")}
          | {("next slot", slot) for slot in range(1, log.SLOTS)} | {("gap before", "empty"), ("gap before", "some")}
@@ -241,7 +239,7 @@ WHERE = ("first", "between", "last")
 
 ALONE = (["low byte of the check", "high byte of the check", "both bytes of the check"]
          + [("the sum and 65,521", state) for state in STATES]
-         + [("number", number) for number in (-1, 1, 16, 17, 255)] + [("telegram", number) for number in EVERY_OWN]
+         + [("number", number) for number in (-1, 1, 16, 17, 255)] + [("telegram", number) for number in OWN]
          + [("length byte", number) for number in (0, 31, 32, 255)] + ["one more", ("gap", "counted")]
          + [("behind a telegram", where) for where in WHERE] + [("unused", slot, byte) for slot in WHERE for byte in WHERE]
          + [("zero", at) for at in range(log.ZEROS_AT, log.CHECK_AT)])

@@ -2,7 +2,6 @@
 
 import sys
 
-import command_cases
 import line
 import long_telegrams
 import making
@@ -54,19 +53,14 @@ def good_record(dice):
     return (second_60.good_by_dice if dice.random() < 0.2 else making.good_record)(dice)
 
 
-def good_message(dice):
-    """A good record or a good command."""
-    return (command_cases.good_command if dice.random() < 0.4 else good_record)(dice)
-
-
 def any_record(dice):
     """A record, good or not, now and then one with second 60."""
     return (second_60.any_by_dice if dice.random() < 0.2 else making.any_record)(dice)
 
 
 def random_line(dice, order=AS_PRINTED):
-    """A damaged line of an order, now and then one of telegrams with second 60 or one with remote commands, now and then with some of
-    the other order, now and then with a long one behind them."""
-    some = dice.choice([second_60.some_telegram, command_cases.some_message, *[making.some_telegram] * 3])
+    """A damaged line of an order, now and then one of telegrams with second 60, now and then with some of the other order, now and
+    then with a long one behind them."""
+    some = second_60.some_telegram if dice.random() < 0.2 else making.some_telegram
     captured = making.random_line(dice, making.in_order(some, order) if dice.random() < 0.9 else making.in_any_order(some))
     return captured + (long_telegrams.some_telegram(dice, order) if dice.random() < 0.2 else b"")

@@ -5,15 +5,13 @@ import re
 
 import line
 import listing
-import messages
+import making
 import takeover
 import takeover_cases
 from cases.states import states, states_to_judge
-from commands import is_command
-from layouts import ORDERS, other_order
+from layouts import EXCHANGED, ORDERS, other_order
 from refusals import outcome
-from selftests.checking import ETX, STX, WRAP, good_message, random_line, same
-from selftests.commands import message_by_pattern
+from selftests.checking import ETX, STX, WRAP, good_record, random_line, read, same, swapped
 from selftests.writing import in_the_other_order
 
 
@@ -27,14 +25,15 @@ def tokens(places):
 
 
 def events_by_pattern(captured, order, places=38):
-    """The events and the stray count of a whole line of an order, found without the reader."""
+    """The events and the stray count of a whole line of an order, found without the reader. An exchanged telegram is swapped and read
+    as printed."""
     events, stray = [], 0
     for token in tokens(places).finditer(captured):
         kind, telegram = token.lastgroup, token.group()
         if kind == "stray":
             stray += 1
             continue
-        result = {"long": 10, "cut": 9, "open": 11}.get(kind) or message_by_pattern(telegram, order)
+        result = {"long": 10, "cut": 9, "open": 11}.get(kind) or read(swapped(telegram) if order == EXCHANGED else telegram)
         events.append(line.Event(token.start(), len(telegram), result))
     return events, stray
 
@@ -101,18 +100,18 @@ def wrapping_counts(dice, rounds):
 
 
 def good_lines(dice, rounds):
-    """Demand 3 in each order: good telegrams of a line's order and remote commands, with any bytes but STX before, between and after,
-    come back as they were, wherever the line is cut, with no refusal and the true number of stray bytes. On a line of the other order
-    the commands would be read as they are, and only time-only telegrams of the one length, as each other's."""
+    """Demand 3 in each order: good telegrams of a line's order, with any bytes but STX before, between and after, come back as they
+    were, wherever the line is cut, with no refusal and the true number of stray bytes. On a line of the other order only time-only
+    telegrams of the one length would be read, as each other's."""
     for order in [*ORDERS] * (rounds // 2):
-        some = [good_message(dice) for _ in range(dice.randrange(6))]
+        some = [good_record(dice) for _ in range(dice.randrange(6))]
         captured, wanted, stray = b"", [], 0
-        for message in [*some, None]:
+        for record in [*some, None]:
             noise = bytes(dice.choice([byte for byte in range(256) if byte != 2]) for _ in range(dice.choice([0, 0, 1, 2, 40])))
             captured, stray = captured + noise, stray + len(noise)
-            if message is not None:
-                telegram = messages.telegram_of(message, order)
-                wanted.append(line.Event(len(captured), len(telegram), message))
+            if record is not None:
+                telegram = making.telegram_of(record, True, order)
+                wanted.append(line.Event(len(captured), len(telegram), record))
                 captured += telegram
         size = len(captured)
         outside = line.state_of([0] * 38, 0, size, stray, size, order)
@@ -121,8 +120,7 @@ def good_lines(dice, rounds):
         same("good lines", line.use_up(line.fresh(order), captured), line.Passed(outside, size, tuple(wanted)))
         same("good lines", len(captured) - stray, sum(event.length for event in wanted))
         there = listing.events_of(captured, other_order(order))[0]
-        same("good lines", [event.outcome for event in there],
-             [message if is_command(message) else in_the_other_order(message) for message in some])
+        same("good lines", [event.outcome for event in there], [in_the_other_order(record) for record in some])
 
 
 def cut_at_each_place(dice, rounds):

@@ -6,11 +6,9 @@ import making
 import sample_logs
 from log_scripts.blocks import block_of, good_telegram, of_all_layouts
 from log_scripts.by_dice import by_dice
-from log_scripts.commands import good_message
 from log_scripts.damage import damaged_blocks, damaged_empty_blocks, rubbish, some_block
 from refusals import outcome
-from selftests.checking import CR_LF, LF_CR, framed, same
-from selftests.commands import message_by_pattern
+from selftests.checking import CR_LF, LF_CR, framed, read, same
 
 PUMP = b"\x02235959\n\r\x03"
 PUMP_SLOT = b"\x0a\x02235959\n\r\x03" + bytes(21)
@@ -67,8 +65,7 @@ def made_again(block):
     """The block that is made by the telegrams in a block, or none where they make none."""
     slots = [block[at:at + 32] for at in range(0, 480, 32)]
     telegrams = [slot[1:1 + slot[0]] for slot in slots[:block[480]]]
-    accepted = (len(telegram) < 32 and not isinstance(message_by_pattern(telegram), int) for telegram in telegrams)
-    if len(telegrams) != block[480] or not all(accepted):
+    if len(telegrams) != block[480] or not all(len(telegram) < 32 and isinstance(read(telegram), tuple) for telegram in telegrams):
         return None
     block = bytearray(512)
     for at, telegram in enumerate(telegrams):
@@ -82,7 +79,7 @@ def made_again(block):
 def log_blocks(dice, rounds):
     """A block is good when it is the one that its telegrams make."""
     for _ in range(rounds):
-        good = block_of([good_message(dice) for _ in range(dice.randrange(1, 16))])
+        good = block_of([good_telegram(dice) for _ in range(dice.randrange(1, 16))])
         same("log blocks", (made_again(good), log.is_good(good)), (good, True))
         some = list(damaged_blocks(dice, good)) + list(rubbish(dice, good))
         for block in some + list(damaged_empty_blocks(dice, bytes(512))) + [making.damaged(dice, good).ljust(512, b"0")[:512]]:

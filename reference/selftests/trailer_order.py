@@ -17,7 +17,6 @@ from layouts import AS_PRINTED, EXCHANGED, ORDERS
 from records import Dated, TimeOnly
 from refusals import outcome
 from selftests.checking import CR_LF, ETX, LF_CR, STX, framed, good_record, random_line, read, same, swapped
-from selftests.commands import message_by_pattern
 from selftests.writing import in_the_other_order
 from telegrams import Setting
 
@@ -166,7 +165,7 @@ def state_of_either_order(dice, rounds):
         if as_printed.event is not None and taken.endswith(ETX):
             telegram = taken[-as_printed.event.length:]
             for fed, order in ((as_printed, AS_PRINTED), (exchanged, EXCHANGED)):
-                same("orders", fed.event, as_printed.event._replace(outcome=message_by_pattern(telegram, order)))
+                same("orders", fed.event, as_printed.event._replace(outcome=read(telegram, True, order)))
         else:
             same("orders", as_printed.event, exchanged.event)
 

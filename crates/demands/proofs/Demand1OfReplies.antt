@@ -44,7 +44,7 @@ day_rules_law : (reply : Reply) → day_refusal reply ≡ first_of (day_rules re
 unfolding day_refusal
 day_rules_law reply = sym (else_nothing (17 when not (day_agrees reply)))
 
-pub place_rules_law : (row : List Place) (bytes : List ℕ) → row_fault row bytes ≡ first_of (place_rules row bytes)
+place_rules_law : (row : List Place) (bytes : List ℕ) → row_fault row bytes ≡ first_of (place_rules row bytes)
 unfolding found_in
 place_rules_law row bytes = (demand_1_scanning row bytes).0 ∙ sym (first_is_lowest (place_rules row bytes) refl)
 

@@ -1,14 +1,14 @@
 -- Demand 1 holds of the line. Assumes nothing.
 use mathlib.Core.Path.{◌≡◌, refl, ap, ◌∙◌, subst⁻¹}
-use mathlib.Core.Bool.{Bool, true, false, cond, not}
+use mathlib.Core.Bool.{Bool, true, false, cond, not, ◌||◌}
 use mathlib.Core.List.{List, [], ◌∷◌, ◌++◌, map}
 use Prim.Native.Nat.{ℕ, zero, suc, ◌+◌, ◌-◌}
 use native.Mathlib.Omega.{arith}
 use lib.Dec.{leb, eqb}
 use lib.ListN.{length, drop, replicate, length-append, length-replicate}
 use borrow.Author.Tests.{eqb-true}
-use Rattle.ascii.specs.Control.{stx, etx, all_plain}
-use Rattle.refusals.specs.Refusals.{◌when◌, ◌else◌, Outcome, done, refused, unless, after}
+use Rattle.ascii.specs.Control.{stx, etx}
+use Rattle.refusals.specs.Refusals.{◌when◌, ◌else◌, Outcome, done, refused, unless}
 use Rattle.refusals.proofs.Laws.{both}
 use Rattle.places_rules.specs.Places.{fixed_holds, decimal_holds, code_holds, every}
 use Rattle.record_rules.specs.declared.Record.{Record}
@@ -18,31 +18,20 @@ use Rattle.layouts_rules.specs.Layouts.{places_of, layout_of}
 use Rattle.trailer_rules.specs.declared.Order.{Order}
 use Rattle.telegram_rules.specs.Reading.{body_in, carried, read_in}
 use Rattle.telegram_rules.proofs.Frames.{frame_is_framed}
-use Rattle.remote_rules.specs.declared.Command.{Command}
-use Rattle.remote_rules.specs.declared.Command.TheVariants.{Tim, TimAsked, Dif, DifAsked, Pos, PosAsked}
-use Rattle.remote_rules.specs.declared.rows.Form.{Form}
-use Rattle.remote_rules.specs.Rows.{row_of, is_command, form_of}
-use Rattle.remote_rules.specs.Rule.{spelled_well}
-use Rattle.remote_rules.specs.Reading as remote
-use Rattle.message_rules.specs.declared.Message.{Message}
-use Rattle.message_rules.specs.declared.Message.TheVariants.{Stamp, Remote}
-use Rattle.message_rules.specs.Messages.{message_of}
 use Rattle.line.specs.declared.Reader.{Reader}
 use Rattle.line.specs.declared.Fed.{Fed}
 use Rattle.line.specs.Readers.{line_of, reader_of, fed_for, well_formed, feed_reader_at, end_reader_at}
-use Rattle.line_rules.specs.Line.{places, Line, Told, nothing, event, Feeding, told_by, told_by_end, step, start_of, is_started, stop_or, feed_of, heard_for}
+use Rattle.line_rules.specs.Line.{places, Line, Told, nothing, event, Feeding, told_by, told_by_end, step, start_of, all_plain, is_started, stop_or, feed_of, heard_for}
 use Rattle.line.specs.Pieces.{Passing, pass_on, passing}
 use Rattle.line.proofs.ReaderLaws.{well, feed_refused, end_refused}
 use Rattle.line_rules.proofs.GoodLines.{Good, started_stays, good_feed}
 use Rattle.line.proofs.StaysGood.{good_line, reader_of_good}
 use Rattle.demands.specs.Numbers.{Rule, ◌given_when◌, among, ◌done_or◌, ◌silent_or◌, EachSilentOr, first_of}
 use Rattle.demands.specs.Lengths.{seven_layouts, length_of}
-use Rattle.demands.specs.Rules.{place_rules, record_rules, rules_in}
-use Rattle.demands.specs.RulesOfMessages.{is_known, has_its_length, command_field_rules, rules_in_form}
+use Rattle.demands.specs.Rules.{record_rules, rules_in}
 use Rattle.demands.specs.Demand1.{on_the_line, FeedingRefuses, UsingUpRefuses, TheEndRefuses, ARefusedStateComesBackUnchanged}
-use Rattle.demands.proofs.Refusing.{tested, refuses, all_among, done_or_law}
+use Rattle.demands.proofs.Refusing.{tested, refuses}
 use Rattle.demands.proofs.RulesHold.{reading_rules_law}
-use Rattle.demands.proofs.RulesOfMessagesHold.{command_rules_law, or_alike, among_more}
 
 -- what is told to a line is an event with one of the numbers, or nothing
 abbrev Tells : List ℕ → Told → Type 0
@@ -51,8 +40,17 @@ Tells numbers (event outcome size) = outcome done_or numbers
 
 heard : (numbers : List ℕ) (told : Told) (at : ℕ) → Tells numbers told → heard_for told at silent_or numbers
 heard numbers nothing at e = tt
-heard numbers (event (done message) size) at e = tt
+heard numbers (event (done rec) size) at e = tt
 heard numbers (event (refused n) size) at e = e
+
+-- what reading refuses with, the line does too
+among_more : (numbers more : List ℕ) (n : ℕ) → among numbers n ≡ true → among (numbers ++ more) n ≡ true
+among_more [] more n e = let z : ◌≡◌ {A = ℕ} 0 1 = cc in absurd (omega arith)
+among_more (first ∷ others) more n e = go (eqb n first) e (among_more others more n)
+  where
+    go : (t : Bool) → (t || among others n) ≡ true → (among others n ≡ true → among (others ++ more) n ≡ true) → (t || among (others ++ more) n) ≡ true
+    go true e later = refl
+    go false e later = later e
 
 -- STX and ETX stand, so that 2 is not among what a telegram of the line is refused with
 abbrev framed_rules : Order → List ℕ → Outcome Layout → List Rule
@@ -63,12 +61,12 @@ framed_rules order bytes (done layout) =
     ∷ record_rules (carried layout (body_in order true bytes))
 framed_rules order bytes (refused n) = []
 
-abbrev in_astamp : List ℕ
-in_astamp = 1 ∷ 3 ∷ 4 ∷ 5 ∷ 6 ∷ 7 ∷ 8 ∷ []
+abbrev in_frame : List ℕ
+in_frame = 1 ∷ 3 ∷ 4 ∷ 5 ∷ 6 ∷ 7 ∷ 8 ∷ []
 
-stamp_judged : (order : Order) (body : List ℕ) → read_in order true (2 ∷ body ++ 3 ∷ []) done_or in_astamp
-stamp_judged order body =
-    (refuses in_astamp (read_in order true bytes) (1 given_when wrong ∷ framed_rules order bytes o)
+judged : (order : Order) (body : List ℕ) → read_in order true (2 ∷ body ++ 3 ∷ []) done_or in_frame
+judged order body =
+    (refuses in_frame (read_in order true bytes) (1 given_when wrong ∷ framed_rules order bytes o)
     (reading_rules_law order true bytes ∙ ap (λ n. unless n tt) (ap (λ later. 1 when wrong else later) (without_2 o)))
     (go o)
     ).1
@@ -86,89 +84,30 @@ stamp_judged order body =
     without_2 (done layout) = ap (λ t. 2 when not t else first_of (framed_rules order bytes (done layout))) (frame_is_framed body)
     without_2 (refused n) = refl
 
-    with_record_law : (rec : Record) → tested in_astamp (1 given_when true ∷ 3 given_when true ∷ 4 given_when true ∷ 5 given_when true ∷ record_rules rec) ≡ true
+    with_record_law : (rec : Record) → tested in_frame (1 given_when true ∷ 3 given_when true ∷ 4 given_when true ∷ 5 given_when true ∷ record_rules rec) ≡ true
     with_record_law (Dated layout status weekday date time) = refl
     with_record_law (TimeOnly layout time) = refl
 
-    go : (o : Outcome Layout) → tested in_astamp (1 given_when true ∷ framed_rules order bytes o) ≡ true
+    go : (o : Outcome Layout) → tested in_frame (1 given_when true ∷ framed_rules order bytes o) ≡ true
     go (done layout) = with_record_law (carried layout (body_in order true bytes))
     go (refused n) = refl
-
--- the same of a command, and 22
-abbrev framed_in_form : List ℕ → Outcome Form → List Rule
-framed_in_form bytes (done form) =
-    place_rules (row_of form) bytes ++ 6 given_when not (spelled_well form (remote.digitsIn form bytes)) ∷ command_field_rules (remote.carried form bytes)
-framed_in_form bytes (refused n) = []
-
-abbrev in_frame : List ℕ
-in_frame = 1 ∷ 3 ∷ 4 ∷ 5 ∷ 6 ∷ 7 ∷ 8 ∷ 22 ∷ []
-
-command_judged : (body : List ℕ) → remote.commandOf (2 ∷ body ++ 3 ∷ []) done_or in_frame
-command_judged body =
-    done_or_law in_frame (remote.commandOf bytes) (22 given_when unknown ∷ 1 given_when wrong ∷ framed_in_form bytes o)
-    (command_rules_law bytes ∙ ap (λ n. unless n tt) (ap (λ later. 22 when unknown else 1 when wrong else later) (without_2 o)))
-    (go o)
-  where
-    bytes : List ℕ
-    bytes = 2 ∷ body ++ 3 ∷ []
-
-    o : Outcome Form
-    o = form_of bytes
-
-    unknown : Bool
-    unknown = not (is_known bytes)
-
-    wrong : Bool
-    wrong = not (has_its_length bytes)
-
-    without_2 : (o : Outcome Form) → first_of (rules_in_form bytes o) ≡ first_of (framed_in_form bytes o)
-    without_2 (done form) = ap (λ t. 2 when not t else first_of (framed_in_form bytes (done form))) (frame_is_framed body)
-    without_2 (refused n) = refl
-
-    with_fields : (told : Command) → all_among in_frame (command_field_rules told) ≡ true
-    with_fields (Tim status moment) = refl
-    with_fields (TimAsked status) = refl
-    with_fields (Dif difference) = refl
-    with_fields DifAsked = refl
-    with_fields (Pos position) = refl
-    with_fields PosAsked = refl
-
-    go : (o : Outcome Form) → all_among in_frame (22 given_when true ∷ 1 given_when true ∷ framed_in_form bytes o) ≡ true
-    go (done form) = with_fields (remote.carried form bytes)
-    go (refused n) = refl
-
-widened : (outcome : Outcome Record) → outcome done_or in_astamp → outcome done_or in_frame
-widened (done rec) e = tt
-widened (refused n) e = among_more in_astamp (22 ∷ []) n e
-
-judged : (order : Order) (body : List ℕ) → message_of order (2 ∷ body ++ 3 ∷ []) done_or in_frame
-unfolding message_of
-judged order body = go (is_command bytes)
-  where
-    bytes : List ℕ
-    bytes = 2 ∷ body ++ 3 ∷ []
-
-    go : (t : Bool)
-        → cond t (after (remote.commandOf bytes) (λ told. done (Remote told))) (after (read_in order true bytes) (λ rec. done (Stamp rec))) done_or in_frame
-    go true = or_alike (remote.commandOf bytes) Remote in_frame (command_judged body)
-    go false = or_alike (read_in order true bytes) Stamp in_frame (widened (read_in order true bytes) (stamp_judged order body))
 
 byte_tells : (order : Order) (held : List ℕ) (byte : ℕ) → is_started held ≡ true → Tells on_the_line (told_by order held byte)
 byte_tells order [] byte started = tt
 byte_tells order (first ∷ held) byte started = go (eqb byte etx) (eqb byte stx) (leb places (length (first ∷ held)))
   where
-    judged_so : (outcome : Outcome Message) → outcome done_or in_frame → outcome done_or on_the_line
-    judged_so (done message) e = tt
+    judged_so : (outcome : Outcome Record) → outcome done_or in_frame → outcome done_or on_the_line
+    judged_so (done rec) e = tt
     judged_so (refused n) e = among_more in_frame (9 ∷ 10 ∷ []) n e
 
-    whole : message_of order ((first ∷ held) ++ 3 ∷ []) done_or in_frame
-    whole = subst⁻¹ (λ byte. message_of order (byte ∷ held ++ 3 ∷ []) done_or in_frame) (eqb-true first 2 (both (eqb first 2) (all_plain held) started).0) (judged order held)
+    whole : read_in order true ((first ∷ held) ++ 3 ∷ []) done_or in_frame
+    whole = subst⁻¹ (λ byte. read_in order true (byte ∷ held ++ 3 ∷ []) done_or in_frame) (eqb-true first 2 (both (eqb first 2) (all_plain held) started).0) (judged order held)
 
     go : (etx stx full : Bool)
         → Tells on_the_line
-        (cond etx (event (message_of order ((first ∷ held) ++ 3 ∷ [])) (length (first ∷ held) + 1))
+        (cond etx (event (read_in order true ((first ∷ held) ++ 3 ∷ [])) (length (first ∷ held) + 1))
         (cond stx (event (refused 9) (length (first ∷ held))) (cond full (event (refused 10) (places + 1)) nothing)))
-    go true stx full = judged_so (message_of order ((first ∷ held) ++ 3 ∷ [])) whole
+    go true stx full = judged_so (read_in order true ((first ∷ held) ++ 3 ∷ [])) whole
     go false true full = refl
     go false false true = refl
     go false false false = tt

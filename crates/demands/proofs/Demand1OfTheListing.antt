@@ -11,27 +11,25 @@ use Rattle.lent_buffer.specs.Laying.{size_of, laid}
 use Rattle.lent_buffer.specs.OneBehindAnother.{ending_in}
 use Rattle.lent_buffer.proofs.LayingLaws.{within_unless, within_refused, laid_answer, refused_is_untouched}
 use Rattle.record_rules.specs.declared.Record.TheVariants.{Dated, TimeOnly}
-use Rattle.remote_rules.specs.declared.Command.TheVariants.{Tim, TimAsked, Dif, DifAsked, Pos, PosAsked}
-use Rattle.message_rules.specs.declared.Message.TheVariants.{Stamp, Remote}
-use Rattle.message_rules.specs.declared.MessageAnswer.{MessageAnswer}
-use Rattle.message_rules.specs.declared.MessageAnswer.TheVariants as answer
-use Rattle.message_rules.specs.Messages.{refusal_of}
+use Rattle.record_rules.specs.declared.RecordAnswer.{RecordAnswer}
+use Rattle.record_rules.specs.declared.RecordAnswer.TheVariants as answer
+use Rattle.record_rules.specs.Rule.{refusal_of}
 use Rattle.line.specs.Readers.{well_formed, line_of}
 use Rattle.line_rules.specs.Line.{Line}
 use Rattle.line_rules.specs.Events.{events_of}
 use Rattle.line.proofs.ReaderLaws.{reader_back}
 use Rattle.line.proofs.StaysGood.{good_line}
-use Rattle.listing_rules.specs.Listing.{header_row, message_row, refused_row, event_row, stray_row}
+use Rattle.listing_rules.specs.Listing.{header_row, record_row, refused_row, event_row, stray_row}
 use Rattle.listing_of_lines.specs.Pages.{row_for, page_of}
 use Rattle.listing_of_lines.specs.Whole.{rows_of}
 use Rattle.listing_of_lines.proofs.PageLaws.{nothing_laid, refused_laid, page_refused}
 use Rattle.listing_of_lines.proofs.RoomLaws.{call_ends_by_room}
 use Rattle.demands.specs.Numbers.{◌given_when◌, ◌refused_by◌, ◌by_first◌}
-use Rattle.demands.specs.RulesOfMessages.{field_rules_of}
+use Rattle.demands.specs.Rules.{record_rules}
 use Rattle.demands.specs.Demand1OfTheListing.{row_rules, room_rules, TheHeaderRefuses, TheStrayLineRefuses, ARowRefuses}
 use Rattle.demands.specs.Demand1OfTheListing.{ARowForRefuses, ListingRefuses, ARefusedRowChangesNoByte, ARefusedStateIsNotListed}
 use Rattle.demands.proofs.Refusing.{else_nothing, by_lowest, unless_by, then_by, tested, refuses}
-use Rattle.demands.proofs.RulesOfMessagesHold.{field_rules_of_law}
+use Rattle.demands.proofs.RulesHold.{record_rules_law}
 
 -- a row is laid where there is room for it
 abbrev sized : List ℕ → List ℕ → Outcome ℕ
@@ -62,22 +60,16 @@ demand_1_header buffer = room_holds header_row buffer
 pub demand_1_stray_line : TheStrayLineRefuses
 demand_1_stray_line stray buffer = room_holds (stray_row stray) buffer
 
-row_rules_law : (start : ℕ) (told : MessageAnswer) (buffer : List ℕ) → (laid (event_row start told) buffer).0 by_first row_rules start told (length buffer)
-row_rules_law start (answer.Good message) buffer =
-    ap (λ o. after o (λ v. done tt)) (answer_so (event_row start (answer.Good message)) buffer)
-    ∙ then_by (refusal_of message) (message_row start message) (sized buffer) (field_rules_of message) _ (field_rules_of_law message) (room_rule (message_row start message) buffer)
+row_rules_law : (start : ℕ) (told : RecordAnswer) (buffer : List ℕ) → (laid (event_row start told) buffer).0 by_first row_rules start told (length buffer)
+row_rules_law start (answer.Good rec) buffer =
+    ap (λ o. after o (λ v. done tt)) (answer_so (event_row start (answer.Good rec)) buffer)
+    ∙ then_by (refusal_of rec) (record_row start rec) (sized buffer) (record_rules rec) _ (record_rules_law rec) (room_rule (record_row start rec) buffer)
 row_rules_law start (answer.Refused number) buffer =
     ap (λ o. after o (λ v. done tt)) (answer_so (done (refused_row start number)) buffer) ∙ room_rule (refused_row start number) buffer
 
-row_tested : (start : ℕ) (told : MessageAnswer) (room : ℕ) → tested (5 ∷ 6 ∷ 7 ∷ 8 ∷ 13 ∷ []) (row_rules start told room) ≡ true
-row_tested start (answer.Good (Stamp (Dated layout status weekday date time))) room = refl
-row_tested start (answer.Good (Stamp (TimeOnly layout time))) room = refl
-row_tested start (answer.Good (Remote (Tim status moment))) room = refl
-row_tested start (answer.Good (Remote (TimAsked status))) room = refl
-row_tested start (answer.Good (Remote (Dif difference))) room = refl
-row_tested start (answer.Good (Remote DifAsked)) room = refl
-row_tested start (answer.Good (Remote (Pos position))) room = refl
-row_tested start (answer.Good (Remote PosAsked)) room = refl
+row_tested : (start : ℕ) (told : RecordAnswer) (room : ℕ) → tested (5 ∷ 6 ∷ 7 ∷ 8 ∷ 13 ∷ []) (row_rules start told room) ≡ true
+row_tested start (answer.Good (Dated layout status weekday date time)) room = refl
+row_tested start (answer.Good (TimeOnly layout time)) room = refl
 row_tested start (answer.Refused number) room = refl
 
 pub demand_1_row : ARowRefuses

@@ -8,7 +8,7 @@ use lib.Dec.{ltb, leb-suc-zero, leb-suc-suc}
 use lib.ListN.{length, get_or}
 use borrow.Author.Tests.{ltb-true, lt-ltb}
 use Rattle.refusals.specs.Refusals.{◌when◌, Outcome, done, refused, unless, after}
-use Rattle.message_rules.specs.Messages.{message_of}
+use Rattle.telegram_rules.specs.Reading.{read_of}
 use Rattle.trailer_rules.specs.declared.Order.TheVariants.{AsPrinted}
 use Rattle.log_rules.specs.declared.verify.Verified.TheVariants.{Bad}
 use Rattle.log_rules.specs.Block.{slots}
@@ -22,10 +22,11 @@ use Rattle.log_rules.proofs.RegionLaws.{blocks_length, blocks_at}
 use Rattle.log_rules.proofs.PlaceLaws.{none_used}
 use Rattle.log_rules.proofs.AddHolds.{a_refused_add_leaves_the_region}
 use Rattle.demands.specs.Numbers.{Rule, ◌given_when◌, first_of, ◌by_first◌}
-use Rattle.demands.specs.RulesOfMessages.{message_rules}
+use Rattle.demands.specs.Rules.{reading_rules}
 use Rattle.demands.specs.Demand1OfTheLog.{has_free, some_bad, free_rules, read_back_rules, verify_rules, verified_outcome, AddingRefuses, ReadingBackRefuses, VerifyingRefuses, ARefusedAddChangesNoByte}
 use Rattle.demands.proofs.Refusing.{else_nothing, then_by, after_by, after_or, done_or_law}
-use Rattle.demands.proofs.RulesOfMessagesHold.{message_rules_law, message_numbers}
+use Rattle.demands.proofs.RulesHold.{reading_rules_law}
+use Rattle.demands.proofs.Demand1Holds.{demand_1_reading}
 
 -- 19, and what is done with the blocks of a whole region
 whole_by : {A : Type 0} (region : List ℕ) (next : List (List ℕ) → Outcome A) (later : List Rule)
@@ -59,12 +60,12 @@ pub demand_1_adding : AddingRefuses
 unfolding add_of place_for place_in
 demand_1_adding region telegram =
     let blocks = whole_blocks region in
-    let read = message_of AsPrinted telegram in
+    let read = read_of true telegram in
     let place : place_in region by_first free_rules region =
     whole_by region (free_behind_used 0) (21 given_when not (has_free blocks) ∷ []) (free_by 0 blocks) in (
-      after_by read (λ message. place_in region) (message_rules AsPrinted telegram) (free_rules region) (message_rules_law AsPrinted telegram) (λ message is. place),
-      after_or read (λ message. place_in region) _ (19 ∷ 21 ∷ []) (message_numbers AsPrinted telegram)
-          (λ message. done_or_law (19 ∷ 21 ∷ []) (place_in region) (free_rules region) place refl),
+      after_by read (λ rec. place_in region) (reading_rules AsPrinted true telegram) (free_rules region) (reading_rules_law AsPrinted true telegram) (λ rec is. place),
+      after_or read (λ rec. place_in region) _ (19 ∷ 21 ∷ []) (demand_1_reading AsPrinted true telegram).1
+          (λ rec. done_or_law (19 ∷ 21 ∷ []) (place_in region) (free_rules region) place refl),
     )
 
 pub demand_1_no_byte_of_the_log : ARefusedAddChangesNoByte

@@ -4,7 +4,7 @@ use mathlib.Core.Bool.{true}
 use mathlib.Core.List.{List, [], ◌∷◌}
 use Prim.Native.Nat.{ℕ}
 use borrow.Author.Tests.{eq-eqb}
-use Rattle.message_rules.specs.Messages.{refusal_of}
+use Rattle.record_rules.specs.Rule.{refusal_of}
 use Rattle.line.specs.declared.Reader.{Reader}
 use Rattle.line.specs.Readers.{fresh_in, feed_reader}
 use Rattle.line_rules.specs.Line.{fresh_line}
@@ -14,7 +14,7 @@ use Rattle.line_rules.specs.SentLine.{Sent, all_good}
 use Rattle.line_rules.proofs.EventLaws.{good_fresh}
 use Rattle.line.proofs.CutLaws.{Splitting, feeding_splits, a_feeding_is}
 use Rattle.line.proofs.UsesUp.{using_up_splits, using_up_tells_the_line, using_up_is_such_a_feeding}
-use Rattle.line_rules.proofs.SentGives.{same_line_same_messages}
+use Rattle.line_rules.proofs.SentGives.{same_line_same_records}
 use Rattle.line.proofs.HandsBack.{exactly_those, true_stray, end_then}
 use Rattle.demands.specs.Demand3.{GoodTelegrams, NoStxAround, HandsBack, TheReaderHandsBackThatList, EveryCutCanBeUsedUp}
 use Rattle.demands.specs.Demand3.{UsingUpIsAFeedingToo, UsingUpHandsBackThatList, TwoListsThatDifferNeverMakeTheSameLine}
@@ -23,7 +23,7 @@ use Rattle.demands.specs.Demand3.{UsingUpIsAFeedingToo, UsingUpHandsBackThatList
 all_good_law : (sents : List Sent) (behind : List ℕ) → GoodTelegrams sents → NoStxAround sents behind → all_good sents behind ≡ true
 all_good_law [] behind good clear = clear
 all_good_law (sent ∷ others) behind good clear =
-    rw (clear.0, eq-eqb (refusal_of sent.message) 0 good.0) (all_good_law others behind good.1 clear.1)
+    rw (clear.0, eq-eqb (refusal_of sent.rec) 0 good.0) (all_good_law others behind good.1 clear.1)
 
 -- by any call that splits what a piece tells
 hands_back : (call : Reader → List ℕ → Calls) → Splitting call → HandsBack call
@@ -48,4 +48,4 @@ demand_3_using_up_hands_back = hands_back using_up using_up_splits
 
 pub demand_3_never_the_same_line : TwoListsThatDifferNeverMakeTheSameLine
 demand_3_never_the_same_line order a b behind_a behind_b good_a clear_a good_b clear_b differ same =
-    differ (same_line_same_messages order a b behind_a behind_b (all_good_law a behind_a good_a clear_a) (all_good_law b behind_b good_b clear_b) same)
+    differ (same_line_same_records order a b behind_a behind_b (all_good_law a behind_a good_a clear_a) (all_good_law b behind_b good_b clear_b) same)

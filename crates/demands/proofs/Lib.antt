@@ -2,16 +2,12 @@ pub mod Refusing
 pub mod TableLengths
 pub mod RulesHold
 pub mod Demand1Holds
-pub mod Demand1OfReplies
-pub mod RulesOfMessagesHold
-pub mod RulesInLiteralsHold
 pub mod Demand1OfTheLine
 pub mod Demand1OfTheListing
+pub mod Demand1OfReplies
 pub mod Demand1OfTheLog
-pub mod Demand1OfCommands
 pub mod Demand2Holds
 pub mod Demand2OfReplies
-pub mod Demand2OfCommands
 pub mod Demand3Holds
 pub mod BoundaryHolds
 pub mod SecondSixtyHolds
@@ -19,9 +15,7 @@ pub mod TheLogHolds
 pub mod UnnamedWritesHold
 pub mod The6038Holds
 pub mod LongerTelegramsHold
-pub mod RemoteCommandsHold
 pub mod ShutOut
 pub mod ShutOutOfReplies
 pub mod ShutOutOfTheLog
-pub mod ShutOutOfCommands
 pub mod PrintedTablesHold

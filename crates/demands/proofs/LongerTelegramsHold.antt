@@ -1,7 +1,6 @@
 -- Document 02, g, holds. Assumes nothing.
 use mathlib.Core.Path.{◌≡◌, refl, ap, ap₂, ◌∙◌, sym}
 use mathlib.Core.Bool.{Bool, true, false, cond}
-use mathlib.Core.Logic.{inl, inr}
 use mathlib.Core.List.{List, [], ◌∷◌, ◌++◌, append-nil}
 use native.Mathlib.Nat.{add-zero}
 use Prim.Native.Nat.{ℕ, ◌+◌, ◌-◌, ◌≤◌, ◌<◌}
@@ -11,6 +10,7 @@ use lib.ListN.{length, drop, length-append, length-take, length-drop}
 use borrow.Author.Tests.{ne_eqb, leb-true}
 use Rattle.refusals.specs.Refusals.{Outcome, done, refused}
 use Rattle.ascii.specs.Control.{stx, etx}
+use Rattle.record_rules.specs.declared.Record.{Record}
 use Rattle.layouts_rules.specs.Layouts.{layout_of}
 use Rattle.trailer_rules.specs.declared.Order.{Order}
 use Rattle.trailer_rules.proofs.TrailerLaws.{length_in_order}
@@ -27,9 +27,7 @@ use Rattle.takeover.specs.Sentences.{reader_for, line_kept}
 use Rattle.takeover.proofs.SentencesHold.{kept_good, the_old_bound_is_24, refuses_what_the_old_rule_refused, what_the_old_reader_left}
 use Rattle.takeover.proofs.SentencesHold.{a_refused_state_comes_back, more_held_is_15, taken_over_is_the_same, taken_over_is_well_formed}
 use Rattle.takeover.proofs.SentencesHold.{without_a_ten_nothing_differs, a_call_without_a_ten, the_end_is_the_same, without_a_ten_each_cut}
-use Rattle.message_rules.specs.declared.Message.{Message}
-use Rattle.message_rules.specs.Messages.{message_of}
-use Rattle.message_rules.proofs.NumberLaws.{ReadingNumber, message_number}
+use Rattle.listing_of_lines.proofs.NumberLaws.{read_number}
 use Rattle.log_rules.proofs.BlockLaws.{none_accepted_is_longer, that_many_fit_a_slot}
 use Rattle.demands.specs.LongerTelegrams.{LongerThan25Is1, AtTheFirstTenItHolds25, LongerTelegramsAreAsAskedFor}
 
@@ -52,23 +50,19 @@ longer_than_25 order bytes long =
 -- a 10 comes of one byte too many and of nothing else: a judgement has another number
 abbrev number_told : Told → ℕ
 number_told nothing = 0
-number_told (event (done message) size) = 0
+number_told (event (done rec) size) = 0
 number_told (event (refused n) size) = n
 
 abbrev size_told : Told → ℕ
 size_told nothing = 0
 size_told (event outcome size) = size
 
-no_judgement : (order : Order) (bytes : List ℕ) (size other : ℕ) → event (message_of order bytes) size ≡ event (refused 10) other → ⊥
-no_judgement order bytes size other ten = go (message_of order bytes) refl (ap number_told ten)
+no_judgement : (order : Order) (bytes : List ℕ) (size other : ℕ) → event (read_in order true bytes) size ≡ event (refused 10) other → ⊥
+no_judgement order bytes size other ten = go (read_in order true bytes) refl (ap number_told ten)
   where
-    not_ten : (n : ℕ) → ReadingNumber n → n ≡ 10 → ⊥
-    not_ten n (inl small) e = absurd (omega arith)
-    not_ten n (inr same) e = absurd (omega arith)
-
-    go : (o : Outcome Message) → message_of order bytes ≡ o → number_told (event o size) ≡ 10 → ⊥
-    go (done message) is e = absurd (omega arith)
-    go (refused n) is e = not_ten n (message_number order bytes n is) e
+    go : (o : Outcome Record) → read_in order true bytes ≡ o → number_told (event o size) ≡ 10 → ⊥
+    go (done rec) is e = absurd (omega arith)
+    go (refused n) is e = absurd (omega (arith, read_number order true bytes n is))
 
 -- at a higher bound that byte is held
 one_more : (low high : ℕ) → low < high → (order : Order) (held : List ℕ) (byte size : ℕ) → length held ≤ low

@@ -15,8 +15,6 @@ use Rattle.listing_of_lines.proofs.AsPrintedHolds as pages
 use Rattle.leitch_rules.proofs.AsPrintedHolds as leitch
 use Rattle.leitch_rules.proofs.Spelled.{every_as_printed}
 use Rattle.requests.proofs.AsPrintedHolds as requests
-use Rattle.remote_rules.proofs.AsPrintedHolds as remote
-use Rattle.remote_rules.proofs.Spelled.{every_tim_listed, every_dif_listed, every_pos_listed, lengths_as_printed}
 use Rattle.log_rules.proofs.AsPrintedHolds as log
 use Rattle.listing_of_logs.proofs.AsPrintedHolds as logpages
 use Rattle.demands.specs.PrintedTables.{AllIsAsPrinted}
@@ -48,10 +46,4 @@ all_is_as_printed = (
   of_6038_as_printed,
   trailer.as-printed,
   orders_as_printed,
-  remote.as-pictured,
-  lengths_as_printed,
-  every_tim_listed,
-  every_dif_listed,
-  every_pos_listed,
-  remote.as-printed,
 )

@@ -11,9 +11,7 @@ use Rattle.refusals.specs.Refusals.{Outcome, done, refused}
 use Rattle.calendar_rules.specs.TimeOfDay.{time_in_range}
 use Rattle.record_rules.specs.Rule.{time_alone_allowed, time_alone_refusal, refusal_of}
 use Rattle.telegram_rules.specs.Writing.{telegram_of}
-use Rattle.trailer_rules.specs.declared.Order.TheVariants.{AsPrinted}
-use Rattle.message_rules.specs.declared.Message.TheVariants.{Stamp}
-use Rattle.message_rules.proofs.MessageLaws.{reads_back_law}
+use Rattle.telegram_rules.proofs.BackAndForth.{written_reads_back}
 use Rattle.log_rules.specs.declared.verify.Verified.TheVariants.{AllGood, Bad}
 use Rattle.log_rules.specs.Block.{block_size}
 use Rattle.log_rules.specs.Good.{is_done, reads_well, is_good}
@@ -47,7 +45,7 @@ is_good_law = refl
 
 reads_well_law : reads_well telegram ≡ true
 unfolding reads_well
-reads_well_law = ap is_done (reads_back_law AsPrinted (Stamp fixed_record) is_good_law)
+reads_well_law = ap is_done (written_reads_back fixed_record is_good_law true)
 
 added : (add_of (replicate (block_size * 1) 0) telegram).0 ≡ done (place_at 0 0)
 added =

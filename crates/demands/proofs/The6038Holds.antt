@@ -39,8 +39,6 @@ use Rattle.log_rules.proofs.AddLaws.{own_refusal}
 use Rattle.demands.specs.ProgramsOfTheLog.{adds}
 use Rattle.demands.specs.Lengths.{seven_layouts, length_of}
 use Rattle.demands.specs.Numbers.{◌given_when◌, among, first_of, ◌by_first◌}
-use Rattle.message_rules.proofs.StampLaws.{no_command}
-use Rattle.message_rules.proofs.MessageLaws.{stamp_refused}
 use Rattle.demands.specs.The6038.{printed_trailer, exchanged_trailer, in_frame, OnlyTheTrailerIsExchanged, ASettingWithoutAnOrderIsAsPrinted, SeveralWithoutAnOrderAreAsPrinted}
 use Rattle.demands.specs.The6038.{NotNamedIsAsPrinted, AnExchanged5500tIsAnAsPrinted6021t, ReadInTheOtherOrderItIsTheOther, InTwoOrdersTwoListsMakeTheSameLine, is_alone_at_its_length}
 use Rattle.demands.specs.The6038.{TheOtherOrderIs3, is_trailer, NeitherOrderIs3, TheLogTakesAsPrintedOnly, TheLogTakesTheOtherForIt, TheReplyKeepsCrLf, The6038IsAsAskedFor}
@@ -255,9 +253,7 @@ neither_is_3 Exchanged control text first second there is_none =
 
 log_takes_printed : TheLogTakesAsPrintedOnly
 unfolding add_of
-log_takes_printed region rec alone =
-    let telegram = telegram_in Exchanged true rec in
-    rw (own_refusal region telegram (stamp_refused AsPrinted telegram 3 (no_command Exchanged rec) (exchanged_is_3 true rec alone)))
+log_takes_printed region rec alone = rw (own_refusal region (telegram_in Exchanged true rec) (exchanged_is_3 true rec alone))
 
 log_takes_the_other : TheLogTakesTheOtherForIt
 log_takes_the_other region time = (ap (adds region) (looks_like true time).0, ap (adds region) (looks_like true time).1)

@@ -16,7 +16,7 @@ use Rattle.lent_buffer.specs.Laying.{within, laid}
 use Rattle.lent_buffer.specs.OneBehindAnother.{joined, part_then, one_behind_another}
 use Rattle.lent_buffer.proofs.LayingLaws.{within_short, within_fits, within_refused, within_done}
 use Rattle.lent_buffer.proofs.OneBehindAnotherLaws.{no_part, first_part}
-use Rattle.ascii.specs.Control.{stx, etx, is_plain, all_plain}
+use Rattle.ascii.specs.Control.{stx, etx}
 use Rattle.places_rules.specs.Places.{code_character, render}
 use Rattle.calendar_rules.specs.Calendar.{is_leap, month_length, month_in_range, date_in_range, day_exists, month_start, day_of}
 use Rattle.calendar_rules.specs.TimeOfDay.{time_in_range}
@@ -24,8 +24,7 @@ use Rattle.record_rules.specs.declared.DatedLayout.{DatedLayout}
 use Rattle.record_rules.specs.declared.DatedLayout.TheVariants.{L6021, L2000, L5500, L5050}
 use Rattle.record_rules.specs.declared.Record.{Record}
 use Rattle.record_rules.specs.declared.Record.TheVariants.{Dated, TimeOnly}
-use Rattle.message_rules.specs.declared.Message.TheVariants.{Stamp}
-use Rattle.message_rules.specs.declared.MessageAnswer.TheVariants as answer
+use Rattle.record_rules.specs.declared.RecordAnswer.TheVariants as answer
 use Rattle.record_rules.specs.Rule.{status_allowed, weekday_allowed, weekday_agrees, time_allowed, dated_refusal, refusal_of, carries_date}
 use Rattle.record_rules.specs.Next.{record_after, next_second_of}
 use Rattle.layouts_rules.specs.declared.Layout.TheVariants as layouts
@@ -42,9 +41,10 @@ use Rattle.telegram_rules.proofs.ReadsBack.{written_is_good}
 use Rattle.telegram.proofs.SeveralLaws.{stood_as, several_stand}
 use Rattle.line.specs.declared.Reader.{Reader}
 use Rattle.line_rules.specs.declared.Heard.TheVariants.{Event}
+use Rattle.line_rules.specs.Line.{is_plain, all_plain}
 use Rattle.line.specs.Cuts.{Calls}
 use Rattle.line_rules.specs.SentLine.{Sent, bytes_sent, no_stx, events_sent, stray_sent}
-use Rattle.message_rules.proofs.PlainLaws.{plain_inner}
+use Rattle.line_rules.proofs.SentLaws.{plain_body}
 use Rattle.demands.specs.Lengths.{length_of}
 use Rattle.demands.specs.Demand2.{Good}
 use Rattle.demands.specs.Demand3.{GoodTelegrams, NoStxAround, GivesBack, HandsBack}
@@ -116,7 +116,7 @@ abbrev telegram : Record → List ℕ
 telegram rec = telegram_of true (form6021 rec)
 
 abbrev alone : Record → Sent
-alone rec = record { before = []; message = Stamp (form6021 rec) }
+alone rec = record { before = []; rec = form6021 rec }
 
 sent_bytes : (recs : List Record) → bytes_sent AsPrinted (map alone recs) [] ≡ joined (map telegram recs)
 sent_bytes [] = refl
@@ -139,8 +139,8 @@ events from [] fine = refl
 events from (rec ∷ recs) fine =
     let size = eighteen rec fine.0 in
     let next : from + 0 + length (telegram rec) ≡ from + 18 = omega (arith, size) in
-    (λ i. Event (answer.Good (Stamp (form6021 rec))) (add-zero from i % 2 ^ 32) (size i) ∷ events_sent AsPrinted (next i) (map alone recs))
-    ∙ ap (◌∷◌ (Event (answer.Good (Stamp (form6021 rec))) (from % 2 ^ 32) 18)) (events (from + 18) recs fine.1)
+    (λ i. Event (answer.Good (form6021 rec)) (add-zero from i % 2 ^ 32) (size i) ∷ events_sent AsPrinted (next i) (map alone recs))
+    ∙ ap (◌∷◌ (Event (answer.Good (form6021 rec)) (from % 2 ^ 32) 18)) (events (from + 18) recs fine.1)
 
 -- a body has no STX
 plain_no_stx : (bytes : List ℕ) → all_plain bytes ≡ true → no_stx bytes ≡ true
@@ -171,7 +171,7 @@ module _ (call : Reader → List ℕ → Calls) (demand : HandsBack call) where
           let body : body_bytes form ≡ bytes = cc in
           let a_6021 = form_layout rec form (sym (made_itself (refusal_of rec) rec form is) ∙ is) in
           let size : length bytes ≡ 16 = ap length (sym body) ∙ telegram_length AsPrinted false form ∙ ap (length_of false) a_6021 in
-          let back = demand AsPrinted [] bytes tt (ap no_stx (sym body) ∙ plain_no_stx (body_bytes form) (plain_inner AsPrinted (Stamp form))) served cut used in
+          let back = demand AsPrinted [] bytes tt (ap no_stx (sym body) ∙ plain_no_stx (body_bytes form) (plain_body AsPrinted form)) served cut used in
           (back.0, back.1 ∙ ap (λ n. n % 4294967296) size, back.2)
       go (refused n) is e = let z : ◌≡◌ {A = ℕ} 0 1 = cc in absurd (omega arith)
 

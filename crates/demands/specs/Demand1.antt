@@ -105,11 +105,11 @@ TheStepRefuses =
     → (step_answer (step_of clock).answer refused_by step_rules clock.rec)
     × (step_answer (step_of clock).answer done_or 5 ∷ 6 ∷ 7 ∷ 8 ∷ 12 ∷ 14 ∷ [])
 
--- what a line gives: 1 to 10 but for 2, as STX and ETX always stand there; 22 of a command
+-- what a line gives: 1 to 10 but for 2, as STX and ETX always stand there
 abbrev pub on_the_line : List ℕ
-on_the_line = 1 ∷ 3 ∷ 4 ∷ 5 ∷ 6 ∷ 7 ∷ 8 ∷ 22 ∷ 9 ∷ 10 ∷ []
+on_the_line = 1 ∷ 3 ∷ 4 ∷ 5 ∷ 6 ∷ 7 ∷ 8 ∷ 9 ∷ 10 ∷ []
 
--- a piece fed to the line, in a well-formed state: nothing, a message, or one of those
+-- a piece fed to the line, in a well-formed state: nothing, a record, or one of those
 abbrev pub FeedingRefuses : Type 0
 FeedingRefuses =
     (reader : Reader) (piece : List ℕ) → well_formed reader ≡ true

@@ -4,26 +4,26 @@ use Rattle.refusals.specs.Refusals.{done, refused}
 use Rattle.lent_buffer.specs.declared.Ending.TheVariants as ending
 use Rattle.lent_buffer.specs.Laying.{laid}
 use Rattle.lent_buffer.specs.OneBehindAnother.{ending_in}
-use Rattle.message_rules.specs.declared.MessageAnswer.{MessageAnswer}
-use Rattle.message_rules.specs.declared.MessageAnswer.TheVariants as answer
+use Rattle.record_rules.specs.declared.RecordAnswer.{RecordAnswer}
+use Rattle.record_rules.specs.declared.RecordAnswer.TheVariants as answer
 use Rattle.line.specs.declared.Reader.{Reader}
 use Rattle.line_rules.specs.declared.Heard.{Heard}
 use Rattle.line_rules.specs.declared.Heard.TheVariants.{Nothing, Event, Refused}
 use Rattle.line.specs.Readers.{well_formed, line_of, AsDeclared}
 use Rattle.line_rules.specs.Events.{events_of}
-use Rattle.listing_rules.specs.Listing.{header_row, message_row, refused_row, event_row, stray_row}
+use Rattle.listing_rules.specs.Listing.{header_row, record_row, refused_row, event_row, stray_row}
 use Rattle.listing_of_lines.specs.Pages.{row_for, stopped, page_of}
 use Rattle.listing_of_lines.specs.Whole.{rows_of}
 use Rattle.demands.specs.Numbers.{Rule, ◌given_when◌, ◌refused_by◌, ◌done_or◌}
-use Rattle.demands.specs.RulesOfMessages.{field_rules_of}
+use Rattle.demands.specs.Rules.{record_rules}
 
 -- a row that is there has one rule: 13 "the lent buffer is shorter than what is to be written"
 abbrev pub room_rules : ℕ → List ℕ → List Rule
 room_rules room row = 13 given_when ltb room (length row) ∷ []
 
--- the row of an event: a record's or a command's own rules, and 13
-abbrev pub row_rules : ℕ → MessageAnswer → ℕ → List Rule
-row_rules start (answer.Good message) room = field_rules_of message ++ room_rules room (message_row start message)
+-- the row of an event: a record's own rules, and 13
+abbrev pub row_rules : ℕ → RecordAnswer → ℕ → List Rule
+row_rules start (answer.Good rec) room = record_rules rec ++ room_rules room (record_row start rec)
 row_rules start (answer.Refused number) room = room_rules room (refused_row start number)
 
 -- the header and the count of stray bytes: 13
@@ -36,7 +36,7 @@ TheStrayLineRefuses = (stray : ℕ) (buffer : List ℕ) → (laid (done (stray_r
 -- an event's row, into a buffer of any length: 5 to 8, 13
 abbrev pub ARowRefuses : Type 0
 ARowRefuses =
-    (start : ℕ) (told : MessageAnswer) (buffer : List ℕ)
+    (start : ℕ) (told : RecordAnswer) (buffer : List ℕ)
     → ((laid (event_row start told) buffer).0 refused_by row_rules start told (length buffer))
     × ((laid (event_row start told) buffer).0 done_or 5 ∷ 6 ∷ 7 ∷ 8 ∷ 13 ∷ [])
 
@@ -45,7 +45,7 @@ abbrev pub ARowForRefuses : Type 0
 ARowForRefuses =
     (heard : Heard) (buffer : List ℕ)
     → (heard ≡ Nothing → (laid (row_for heard) buffer).0 ≡ done 0)
-    × ((told : MessageAnswer) (start size : ℕ) → heard ≡ Event told start size → (laid (row_for heard) buffer).0 ≡ (laid (event_row start told) buffer).0)
+    × ((told : RecordAnswer) (start size : ℕ) → heard ≡ Event told start size → (laid (row_for heard) buffer).0 ≡ (laid (event_row start told) buffer).0)
     × ((n : ℕ) → heard ≡ Refused n → (laid (row_for heard) buffer).0 ≡ refused n)
 
 -- a piece listed into a buffer: 15 where the state is not well formed, else 13 exactly where the buffer is shorter than the rows of
@@ -58,7 +58,7 @@ ListingRefuses =
 -- a refused row changes no byte of the buffer
 abbrev pub ARefusedRowChangesNoByte : Type 0
 ARefusedRowChangesNoByte =
-    (start : ℕ) (told : MessageAnswer) (buffer : List ℕ) (n : ℕ) → (laid (event_row start told) buffer).0 ≡ refused n
+    (start : ℕ) (told : RecordAnswer) (buffer : List ℕ) (n : ℕ) → (laid (event_row start told) buffer).0 ≡ refused n
     → (laid (event_row start told) buffer).1 ≡ buffer
 
 -- "a refused state .. comes back unchanged" from the listing too: no byte is taken, and no row is laid

@@ -1,6 +1,6 @@
 -- Demand 1 of document 02, c: the log's add, read back and verify. Of their rules the first that holds gives the number: an added
--- telegram's own refusal comes before 19 because the request says so, and not because 1 to 8 are the lower numbers; 22 is not.
-use Rattle.std.specs.Prelude.{Bool, false, not, ◌&&◌, ◌||◌, List, [], ◌∷◌, ◌++◌, ◌≡◌, ℕ, ltb}
+-- telegram's own refusal comes before 19 because the request says so, and not because 1 to 8 are the lower numbers.
+use Rattle.std.specs.Prelude.{Bool, true, false, not, ◌&&◌, ◌||◌, List, [], ◌∷◌, ◌++◌, ◌≡◌, ℕ, ltb}
 use Rattle.refusals.specs.Refusals.{Outcome, done, refused}
 use Rattle.trailer_rules.specs.declared.Order.TheVariants.{AsPrinted}
 use Rattle.log_rules.specs.declared.verify.Verified.{Verified}
@@ -12,7 +12,7 @@ use Rattle.log_rules.specs.Verify.{verify_of}
 use Rattle.log_rules.specs.Add.{some_used, add_of}
 use Rattle.log_rules.specs.ReadBack.{read_back_of}
 use Rattle.demands.specs.Numbers.{Rule, ◌given_when◌, ◌by_first◌, ◌done_or◌}
-use Rattle.demands.specs.RulesOfMessages.{message_rules}
+use Rattle.demands.specs.Rules.{reading_rules}
 
 -- a "free slot of a good block behind the last slot used in any good block": of a good block that is not full, and none behind it
 -- that is good has a slot used
@@ -30,7 +30,7 @@ free_rules region = 19 given_when not (is_whole region) ∷ 21 given_when not (h
 
 -- adding: "an added telegram's own, then" those; document 02, f: "the log takes as-printed order only"
 abbrev pub add_rules : List ℕ → List ℕ → List Rule
-add_rules region telegram = message_rules AsPrinted telegram ++ free_rules region
+add_rules region telegram = reading_rules AsPrinted true telegram ++ free_rules region
 
 -- reading back: 19, "20 block bad", where there is such a block, "27 no telegram at that block and slot"
 abbrev pub read_back_rules : List ℕ → ℕ → ℕ → List Rule
@@ -50,12 +50,12 @@ verified_outcome AllGood = done tt
 verified_outcome (Bad number block) = refused number
 verified_outcome (Refused number) = refused number
 
--- a telegram added: 1 to 8, 22 of a command, 19, 21
+-- a telegram added: 1 to 8, 19, 21
 abbrev pub AddingRefuses : Type 0
 AddingRefuses =
     (region telegram : List ℕ)
     → ((add_of region telegram).0 by_first add_rules region telegram)
-    × ((add_of region telegram).0 done_or 1 ∷ 2 ∷ 3 ∷ 4 ∷ 5 ∷ 6 ∷ 7 ∷ 8 ∷ 22 ∷ 19 ∷ 21 ∷ [])
+    × ((add_of region telegram).0 done_or 1 ∷ 2 ∷ 3 ∷ 4 ∷ 5 ∷ 6 ∷ 7 ∷ 8 ∷ 19 ∷ 21 ∷ [])
 
 -- a telegram read back, by any block and slot: 19, 20, 27
 abbrev pub ReadingBackRefuses : Type 0

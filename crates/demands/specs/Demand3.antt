@@ -1,8 +1,7 @@
--- Demand 3, sentence by sentence; document 02, f: "for a line whose order is known to the reader", and h: remote commands "join demand 3's
--- list".
+-- Demand 3, sentence by sentence; document 02, f: "for a line whose order is known to the reader".
 use Rattle.std.specs.Prelude.{true, List, [], ◌∷◌, map, ◌≡◌, ℕ, ◌%◌}
-use Rattle.message_rules.specs.declared.Message.{Message}
-use Rattle.message_rules.specs.Messages.{refusal_of}
+use Rattle.record_rules.specs.declared.Record.{Record}
+use Rattle.record_rules.specs.Rule.{refusal_of}
 use Rattle.trailer_rules.specs.declared.Order.{Order}
 use Rattle.line.specs.declared.Reader.{Reader}
 use Rattle.line.specs.declared.Fed.{Fed}
@@ -16,11 +15,10 @@ use Rattle.line_rules.specs.SentLine.{Sent, bytes_sent, no_stx, events_sent, str
 use Rattle.demands.specs.Programs.{feeds}
 
 -- "Take any list of good telegrams, layouts mixed at will, each written with control characters and without second advance,"
--- (a `Sent` is a message, a record or a command, with the bytes before its telegram; `bytes_sent` writes each so, as `WrittenByTheTables` of
--- demand 2 says of records, and `ACommandIsWritten` of commands)
+-- (a `Sent` is a record with the bytes before its telegram; `bytes_sent` writes each so, as `WrittenByTheTables` of demand 2 says)
 abbrev pub GoodTelegrams : List Sent → Type 0
 GoodTelegrams [] = Unit {0}
-GoodTelegrams (sent ∷ others) = (refusal_of sent.message ≡ 0) × GoodTelegrams others
+GoodTelegrams (sent ∷ others) = (refusal_of sent.rec ≡ 0) × GoodTelegrams others
 
 -- "with any bytes except STX before, between and after."
 abbrev pub NoStxAround : List Sent → List ℕ → Type 0
@@ -38,7 +36,7 @@ GivesBack call order bytes events stray =
     × ((end_reader (reader_behind call (fresh_in order) served)).heard ≡ Nothing)
 
 -- "The reader hands back that list, no record more or fewer, no refusal, and the true number of stray bytes, counted modulo
--- 4,294,967,296." (`events_sent` is that list: the messages in their order, each with its position and length)
+-- 4,294,967,296." (`events_sent` is that list: the records in their order, each with its position and length)
 abbrev pub HandsBack : (Reader → List ℕ → Calls) → Type 0
 HandsBack call =
     (order : Order) (sents : List Sent) (behind : List ℕ) → GoodTelegrams sents → NoStxAround sents behind
@@ -63,10 +61,10 @@ abbrev pub UsingUpHandsBackThatList : Type 0
 UsingUpHandsBackThatList = HandsBack using_up
 
 -- "So two lists that differ in one layout or one carried field never make the same line.", where its order is known
-abbrev pub messages_of : List Sent → List Message
-messages_of sents = map (λ sent. sent.message) sents
+abbrev pub records_of : List Sent → List Record
+records_of sents = map (λ sent. sent.rec) sents
 
 abbrev pub TwoListsThatDifferNeverMakeTheSameLine : Type 0
 TwoListsThatDifferNeverMakeTheSameLine =
     (order : Order) (a b : List Sent) (behind_a behind_b : List ℕ) → GoodTelegrams a → NoStxAround a behind_a → GoodTelegrams b → NoStxAround b behind_b
-    → (messages_of a ≡ messages_of b → ⊥) → bytes_sent order a behind_a ≡ bytes_sent order b behind_b → ⊥
+    → (records_of a ≡ records_of b → ⊥) → bytes_sent order a behind_a ≡ bytes_sent order b behind_b → ⊥

@@ -16,7 +16,7 @@ use Rattle.takeover.specs.Sentences.{WithoutATenNothingDiffers, ACallWithoutATen
 use Rattle.log_rules.specs.LongestTelegram.{NoneAcceptedIsLonger, ThatManyFitASlot}
 use Rattle.demands.specs.Programs.{reads}
 
--- no layout is longer than 25: a telegram that is, and that is no command, is judged, and refused with 1
+-- no layout is longer than 25: a telegram that is, is judged, and refused with 1
 abbrev pub LongerThan25Is1 : Type 0
 LongerThan25Is1 = (order : Order) (bytes : List ℕ) → 25 < length bytes → reads order true bytes ≡ refused 1
 

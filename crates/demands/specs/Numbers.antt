@@ -1,7 +1,7 @@
 -- What an entry point may answer: the words in which demand 1 is stated.
 use Rattle.std.specs.Prelude.{Bool, true, false, ◌&&◌, ◌||◌, List, [], ◌∷◌, ◌≡◌, ℕ, zero, suc, leb, eqb}
 use Rattle.refusals.specs.Refusals.{◌when◌, ◌else◌, lower, Outcome, done, refused, unless, after}
-use Rattle.message_rules.specs.Messages.{message_answer}
+use Rattle.record_rules.specs.Answers.{record_answer}
 use Rattle.line_rules.specs.declared.Heard.{Heard}
 use Rattle.line_rules.specs.declared.Heard.TheVariants.{Nothing, Event, Refused}
 
@@ -59,11 +59,11 @@ abbrev pub ◌none_or◌ : ℕ → List ℕ → Type 0
 ◌none_or◌ zero numbers = Unit {0}
 ◌none_or◌ (suc n) numbers = among numbers (suc n) ≡ true
 
--- the same of the line: no event, or an event that is a message or is refused with one of these numbers. 15 is no event
+-- the same of the line: no event, or an event that is a record or is refused with one of these numbers. 15 is no event
 infix 10 ◌silent_or◌
 abbrev pub ◌silent_or◌ : Heard → List ℕ → Type 0
 ◌silent_or◌ Nothing numbers = Unit {0}
-◌silent_or◌ (Event answer start size) numbers = message_answer answer done_or numbers
+◌silent_or◌ (Event answer start size) numbers = record_answer answer done_or numbers
 ◌silent_or◌ (Refused n) numbers = ⊥
 
 abbrev pub EachSilentOr : List Heard → List ℕ → Type 0

@@ -14,11 +14,6 @@ use Rattle.listing_rules.specs.AsPrinted.{TheListingIsAsPrinted}
 use Rattle.listing_of_lines.specs.AsPrinted.{TheWholeListingIsAsPrinted}
 use Rattle.leitch_rules.specs.AsPrinted.{TheReplyIsAsPrinted, EveryReplyIsAsPrinted}
 use Rattle.requests.specs.AsPrinted.{RequestsAreAsPrinted}
-use Rattle.remote_rules.specs.RowsAsPrinted.{RowsAreAsPictured, LengthsAreAsPrinted}
-use Rattle.remote_rules.specs.TimAsPrinted.{EveryTimIsListed}
-use Rattle.remote_rules.specs.DifAsPrinted.{EveryDifIsListed}
-use Rattle.remote_rules.specs.PosAsPrinted.{EveryPosIsListed}
-use Rattle.remote_rules.specs.AsPrinted.{CommandsAreAsPrinted}
 use Rattle.log_rules.specs.AsPrinted.{TheLogIsAsPrinted}
 use Rattle.listing_rules.specs.LogAsPrinted.{TheLogsListingsAreAsPrinted}
 use Rattle.listing_of_logs.specs.AsPrinted.{TheListingsOfALogAreAsPrinted}
@@ -65,12 +60,3 @@ AllIsAsPrinted =
     × The6038IsAsPrinted
     × TrailersAreAsPrinted
     × OrdersAreAsPrinted
-    -- document 02, h, and 003, section 7: the rows of TIM, DIF and POS in pictures, their lengths; the 2 characters of a status, the 20 of a time,
-    -- the 6 of a difference and the 22 of a position, each with the values listed for it, of any command that is read; all examples of the
-    -- section, and refused ones
-    × RowsAreAsPictured
-    × LengthsAreAsPrinted
-    × EveryTimIsListed
-    × EveryDifIsListed
-    × EveryPosIsListed
-    × CommandsAreAsPrinted

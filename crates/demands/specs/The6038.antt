@@ -25,7 +25,6 @@ use Rattle.telegram.specs.SeveralTelegrams.{several_after}
 use Rattle.telegram_rules.specs.Writing.{telegram_in}
 use Rattle.leitch_rules.specs.declared.Reply.{Reply}
 use Rattle.leitch_rules.specs.Writing.{reply_bytes}
-use Rattle.message_rules.specs.declared.Message.TheVariants.{Stamp}
 use Rattle.line.specs.Readers.{fresh_in, fresh_reader}
 use Rattle.line.specs.ReaderSentences.{EveryOrderIsWellFormed, TheOrderStays}
 use Rattle.line_rules.specs.SentLine.{Sent, bytes_sent}
@@ -35,7 +34,7 @@ use Rattle.demands.specs.ProgramsOfTheLog.{adds}
 use Rattle.demands.specs.Lengths.{seven_layouts, length_of}
 use Rattle.demands.specs.Numbers.{among}
 use Rattle.demands.specs.Demand2.{Good}
-use Rattle.demands.specs.Demand3.{GoodTelegrams, messages_of}
+use Rattle.demands.specs.Demand3.{GoodTelegrams, records_of}
 
 -- "Its second data string byte can exchange CR and LF": the table's trailers, and each exchanged
 abbrev pub printed_trailer : Layout → List ℕ
@@ -105,14 +104,14 @@ ReadInTheOtherOrderItIsTheOther =
 -- "Demand 3 therefore reads: for a line whose order is known to the reader": of two good lists that differ, the one makes in exchanged
 -- order the line that the other makes as printed
 abbrev pub one_time : TimeLayout → Time → List Sent
-one_time layout time = record { before = []; message = Stamp (TimeOnly layout time) } ∷ []
+one_time layout time = record { before = []; rec = TimeOnly layout time } ∷ []
 
 abbrev pub InTwoOrdersTwoListsMakeTheSameLine : Type 0
 InTwoOrdersTwoListsMakeTheSameLine =
     (time : Time) (behind : List ℕ) → Good (TimeOnly T5500 time)
     → GoodTelegrams (one_time T5500 time)
     × GoodTelegrams (one_time T6021 time)
-    × (messages_of (one_time T5500 time) ≡ messages_of (one_time T6021 time) → ⊥)
+    × (records_of (one_time T5500 time) ≡ records_of (one_time T6021 time) → ⊥)
     × (bytes_sent Exchanged (one_time T5500 time) behind ≡ bytes_sent AsPrinted (one_time T6021 time) behind)
 
 -- "for the trailer check": a telegram of any layout but these two, whatever its record, is refused with 3 in the other order

@@ -15,6 +15,7 @@ use Rattle.record_rules.specs.declared.DatedLayout.TheVariants.{L6021}
 use Rattle.record_rules.specs.declared.TimeLayout.{TimeLayout}
 use Rattle.record_rules.specs.declared.Record.{Record}
 use Rattle.record_rules.specs.declared.Record.TheVariants.{Dated, TimeOnly}
+use Rattle.record_rules.specs.declared.RecordAnswer.TheVariants as answer
 use Rattle.record_rules.specs.Rule.{refusal_of, carries_date}
 use Rattle.layouts_rules.specs.declared.Layout.TheVariants as layouts
 use Rattle.layouts_rules.specs.Layouts.{own_layout}
@@ -25,8 +26,6 @@ use Rattle.telegram_rules.specs.declared.write.Choice.TheVariants.{Named, Unname
 use Rattle.telegram.specs.declared.several.Several.{Several}
 use Rattle.telegram.specs.SeveralTelegrams.{none_yet, with_more, unless_ended, several_after, several_all}
 use Rattle.telegram_rules.specs.Writing.{telegram_in, telegram_of, as6021, judged_of, telegram_for}
-use Rattle.message_rules.specs.declared.Message.TheVariants.{Stamp}
-use Rattle.message_rules.specs.declared.MessageAnswer.TheVariants as answer
 use Rattle.line.specs.declared.Reader.{Reader}
 use Rattle.line_rules.specs.declared.Heard.{Heard}
 use Rattle.line_rules.specs.declared.Heard.TheVariants.{Event}
@@ -78,7 +77,7 @@ form6021 (TimeOnly layout time) = TimeOnly layout time
 abbrev pub TheLineReaderSeesIt : (Reader → List ℕ → Calls) → Type 0
 TheLineReaderSeesIt call =
     (rec : Record) (room : ℕ) (bytes : List ℕ) → GoodDated rec → writes Unnamed rec room ≡ done bytes
-    → GivesBack call AsPrinted bytes (Event (answer.Good (Stamp (form6021 rec))) 0 18 ∷ []) 0
+    → GivesBack call AsPrinted bytes (Event (answer.Good (form6021 rec)) 0 18 ∷ []) 0
 
 -- "An unnamed setting now means 6021 with control characters", without second advance: into every buffer it writes, or refuses, as that
 -- setting does by name of the 6021 form
@@ -105,7 +104,7 @@ TheRecordsOwnComesFirst = (rec : Record) (room : ℕ) → (Good rec → ⊥) →
 -- hands back their 6021 forms, one every 18 bytes
 abbrev pub every_eighteen : ℕ → List Record → List Heard
 every_eighteen from [] = []
-every_eighteen from (rec ∷ recs) = Event (answer.Good (Stamp (form6021 rec))) (from % 2 ^ 32) 18 ∷ every_eighteen (from + 18) recs
+every_eighteen from (rec ∷ recs) = Event (answer.Good (form6021 rec)) (from % 2 ^ 32) 18 ∷ every_eighteen (from + 18) recs
 
 abbrev pub SeveralFollow : (Reader → List ℕ → Calls) → Type 0
 SeveralFollow call =

@@ -4,9 +4,8 @@ use Rattle.refusals.specs.Refusals.{Outcome, done, refused}
 use Rattle.record_rules.specs.declared.TimeLayout.TheVariants.{T6021}
 use Rattle.record_rules.specs.declared.Record.{Record}
 use Rattle.record_rules.specs.declared.Record.TheVariants.{TimeOnly}
-use Rattle.message_rules.specs.declared.Message.TheVariants.{Stamp}
-use Rattle.message_rules.specs.declared.MessageAnswer.{MessageAnswer}
-use Rattle.message_rules.specs.declared.MessageAnswer.TheVariants as answer
+use Rattle.record_rules.specs.declared.RecordAnswer.{RecordAnswer}
+use Rattle.record_rules.specs.declared.RecordAnswer.TheVariants as answer
 use Rattle.trailer_rules.specs.declared.Order.{Order}
 use Rattle.telegram_rules.specs.declared.write.Choice.{Choice}
 use Rattle.line.specs.declared.Reader.{Reader}
@@ -19,12 +18,12 @@ use Rattle.line.specs.Readers.{reader_with, feed_reader}
 abbrev pub refusing_reader : Order → Bool → List ℕ → Outcome Record
 refusing_reader order control bytes = refused 1
 
-abbrev pub answering : MessageAnswer → Heard → Heard
+abbrev pub answering : RecordAnswer → Heard → Heard
 answering always Nothing = Nothing
 answering always (Event told start size) = Event always start size
 answering always (Refused number) = Refused number
 
-abbrev pub answering_line : MessageAnswer → Reader → List ℕ → Fed
+abbrev pub answering_line : RecordAnswer → Reader → List ℕ → Fed
 answering_line always reader piece =
     record { reader = (feed_reader reader piece).reader; taken = (feed_reader reader piece).taken; heard = answering always (feed_reader reader piece).heard }
 
@@ -39,7 +38,7 @@ abbrev pub fixed_reader : Order → Bool → List ℕ → Outcome Record
 fixed_reader order control bytes = done fixed_record
 
 abbrev pub fixed_line : Reader → List ℕ → Fed
-fixed_line = answering_line (answer.Good (Stamp fixed_record))
+fixed_line = answering_line (answer.Good fixed_record)
 
 -- "a writer .. that does nothing"
 abbrev pub idle_writer : Choice → Record → ℕ → Outcome (List ℕ)

@@ -2,7 +2,7 @@
 use libc::{STDERR_FILENO, STDOUT_FILENO};
 
 // The version stands here and nowhere else.
-const VERSION: [u8; 14] = *b"dialspark 4.8\n";
+const VERSION: [u8; 16] = *b"dialspark 4.7.1\n";
 
 const USAGE: [u8; 78] =
     *b"usage: dialspark [--help | --version] [--exchanged | --verify | --log] [FILE]\n";

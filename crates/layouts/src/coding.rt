@@ -150,7 +150,7 @@ fn full_year(year: u8) -> u16
 }
 
 // Two decimal digits as a number. What stands in a slot has four bits.
-pub fn pair(tens: u8, ones: u8) -> u8
+fn pair(tens: u8, ones: u8) -> u8
     ensures { result ≡ 10 * (tens % 16) + ones % 16 }
 {
     10 * (tens % 16) + ones % 16
@@ -166,8 +166,7 @@ fn year_in(layout: DatedLayout, digits: [u8; SLOTS]) -> u16
     full_year(year)
 }
 
-// The time in the slots that every layout gives it.
-pub fn time_in(digits: [u8; SLOTS]) -> Time
+fn time_in(digits: [u8; SLOTS]) -> Time
     ensures { result ≡ time_in digits }
 {
     Time {
@@ -177,8 +176,7 @@ pub fn time_in(digits: [u8; SLOTS]) -> Time
     }
 }
 
-// The date in the slots that a layout gives it.
-pub fn date_in(layout: DatedLayout, digits: [u8; SLOTS]) -> Date
+fn date_in(layout: DatedLayout, digits: [u8; SLOTS]) -> Date
     ensures { result ≡ date_in layout digits }
 {
     Date {

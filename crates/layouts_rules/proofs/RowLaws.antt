@@ -11,7 +11,7 @@ use Rattle.refusals.specs.Refusals.{Outcome, done}
 use Rattle.refusals.proofs.Laws.{both}
 use Rattle.refusals.proofs.Tables.{all_below, below}
 use Rattle.places_rules.specs.Places.{Place, fixed, slots, place, fixed_holds, every}
-use Rattle.places_rules.proofs.Rows.{distinct, sound, plain, most}
+use Rattle.places_rules.proofs.Rows.{distinct, sound, most}
 use Rattle.places_rules.proofs.RoundTrip.{every_at_law}
 use Rattle.record_rules.specs.declared.DatedLayout.TheVariants.{L6021, L2000, L5500, L5050}
 use Rattle.record_rules.specs.declared.TimeLayout.TheVariants.{T6021, T5500, T5050}
@@ -32,36 +32,28 @@ of_each P a b c d e f g (layouts.TimeOnly T6021) = e
 of_each P a b c d e f g (layouts.TimeOnly T5500) = f
 of_each P a b c d e f g (layouts.TimeOnly T5050) = g
 
--- no slot twice; every slot one of the slots; no STX or ETX; 8 to 23 places
+-- no slot twice; every slot one of the slots, and no STX or ETX; 8 to 23 places
 test : List Place → Bool
-test row = distinct row && (sound row && (plain row && (leb 8 (length row) && leb (length row) 23)))
+test row = distinct row && (sound row && (leb 8 (length row) && leb (length row) 23))
 
 tested : (layout : Layout) → test (places_of layout) ≡ true
 unfolding places_of test
 tested = of_each (λ row. test row ≡ true) refl refl refl refl refl refl refl
 
-module _ (layout : Layout) where
-  pub row_distinct : distinct (places_of layout) ≡ true
-  unfolding test
-  row_distinct = (both (distinct (places_of layout)) _ (tested layout)).0
+pub row_distinct : (layout : Layout) → distinct (places_of layout) ≡ true
+unfolding test
+row_distinct layout = (both (distinct (places_of layout)) _ (tested layout)).0
 
-  behind_distinct : (sound (places_of layout) && (plain (places_of layout) && (leb 8 (length (places_of layout)) && leb (length (places_of layout)) 23))) ≡ true
-  unfolding test
-  behind_distinct = (both (distinct (places_of layout)) _ (tested layout)).1
+pub row_sound : (layout : Layout) → sound (places_of layout) ≡ true
+unfolding test
+row_sound layout = (both (sound (places_of layout)) _ (both (distinct (places_of layout)) _ (tested layout)).1).0
 
-  pub row_sound : sound (places_of layout) ≡ true
-  row_sound = (both (sound (places_of layout)) _ behind_distinct).0
-
-  behind_sound : (plain (places_of layout) && (leb 8 (length (places_of layout)) && leb (length (places_of layout)) 23)) ≡ true
-  behind_sound = (both (sound (places_of layout)) _ behind_distinct).1
-
-  pub row_plain : plain (places_of layout) ≡ true
-  row_plain = (both (plain (places_of layout)) _ behind_sound).0
-
-  pub row_length : (8 ≤ length (places_of layout)) × (length (places_of layout) ≤ 23)
-  row_length =
-      let ends = both (leb 8 (length (places_of layout))) _ (both (plain (places_of layout)) _ behind_sound).1 in
-      (leb-true _ _ ends.0, leb-true _ _ ends.1)
+pub row_length : (layout : Layout) → (8 ≤ length (places_of layout)) × (length (places_of layout) ≤ 23)
+unfolding test
+row_length layout =
+    let rest = (both (sound (places_of layout)) _ (both (distinct (places_of layout)) _ (tested layout)).1).1 in
+    let ends = both (leb 8 (length (places_of layout))) _ rest in
+    (leb-true _ _ ends.0, leb-true _ _ ends.1)
 
 -- a layout with a date shows codes in the first two slots and decimal digits in the next fourteen; one without, decimal digits in six
 abbrev pub limit : Layout → ℕ → ℕ

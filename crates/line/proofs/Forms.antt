@@ -3,8 +3,7 @@ use Rattle.std.proofs.Common.{◌≡◌, ℕ, zero, suc, ◌+◌, ◌-◌, ◌%�
 use Rattle.refusals.proofs.Laws.{both}
 use Rattle.trailer_rules.specs.declared.Order.{Order}
 use Rattle.line.specs.Readers.{reader_with, reader_of, all_zero}
-use Rattle.ascii.specs.Control.{is_plain, all_plain}
-use Rattle.line_rules.specs.Line.{places, line_with, start_of, is_started}
+use Rattle.line_rules.specs.Line.{places, line_with, start_of, is_plain, all_plain, is_started}
 
 -- zeros
 pub zero_step : (held : List ℕ) (at : ℕ) → at < length held → all_zero (drop at held) ≡ (eqb (get_or held at 0) 0 && all_zero (drop (at + 1) held))

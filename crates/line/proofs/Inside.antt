@@ -2,16 +2,16 @@
 use Rattle.std.proofs.Common.{◌≡◌, ℕ, suc, ◌+◌, ◌-◌, ◌%◌, ◌^◌, ◌<◌, ◌≤◌, Bool, true, false, ltb, List, [], ◌∷◌, ◌++◌, length, get_or, take, drop, replicate, sym, refl, ap, ◌∙◌, ap₂, true≢false, add-zero, zero-add, arith, length-append, drop_of_length-le, length-take-le, drop-cons, ltb-false, ltb-true, ne_eqb, le-leb}
 use lib.Seq.{paste, take-paste}
 use Rattle.refusals.specs.Refusals.{Outcome, refused}
-use Rattle.message_rules.specs.declared.Message.{Message}
-use Rattle.message_rules.specs.declared.MessageAnswer.{MessageAnswer}
-use Rattle.message_rules.specs.declared.MessageAnswer.TheVariants as answer
-use Rattle.message_rules.specs.Messages.{message_answer}
-use Rattle.ascii.specs.Control.{stx, etx, is_plain}
+use Rattle.record_rules.specs.declared.Record.{Record}
+use Rattle.record_rules.specs.declared.RecordAnswer.{RecordAnswer}
+use Rattle.record_rules.specs.declared.RecordAnswer.TheVariants as answer
+use Rattle.record_rules.specs.Answers.{record_answer}
+use Rattle.ascii.specs.Control.{stx, etx}
 use Rattle.trailer_rules.specs.declared.Order.{Order}
 use Rattle.line.specs.declared.Reader.{Reader}
 use Rattle.line_rules.specs.declared.Heard.TheVariants.{Nothing, Event}
 use Rattle.line.specs.Readers.{reader_with, reader_of, line_of, well_formed, fed_for, feed_reader, feed_reader_at}
-use Rattle.line_rules.specs.Line.{places, judgement, Line, line_with, event, Feeding, feed_of, start_of, answer_for}
+use Rattle.line_rules.specs.Line.{places, judgement, Line, line_with, is_plain, event, Feeding, feed_of, start_of, answer_for}
 use Rattle.line_rules.specs.Runs.{roomy_run}
 use Rattle.line.proofs.Forms.{taken_length, start_stays, padding}
 use Rattle.line_rules.proofs.RunLaws.{Within, run_within, run_ends}
@@ -19,7 +19,7 @@ use Rattle.line.proofs.ReaderLaws.{Well, well}
 use Rattle.line_rules.proofs.FeedLaws.{later, feed_run}
 
 -- a feeding that ended with the byte it was given
-abbrev pub stopped : Line → List ℕ → Outcome Message → ℕ → Feeding
+abbrev pub stopped : Line → List ℕ → Outcome Record → ℕ → Feeding
 stopped line next outcome size =
     record { line = line_with next (line.fed + 1) line.stray line.order; taken = 1; told = event outcome size; at = start_of line }
 
@@ -110,7 +110,7 @@ module _ (reader : Reader) (piece : List ℕ) (size : length reader.held ≡ pla
       })
 
   -- a byte that tells
-  pub inside_stops : (next : List ℕ) (outcome : Outcome Message) (count : ℕ) → length next ≤ places
+  pub inside_stops : (next : List ℕ) (outcome : Outcome Record) (count : ℕ) → length next ≤ places
       → feed_of grown (drop added piece) ≡ stopped grown next outcome count
       → feed_reader reader piece
       ≡ record { reader = reader_of (line_with next ((reader.fed + (added + 1)) % 2 ^ 32) reader.stray reader.order); taken = added + 1; heard = Event (answer_for outcome) reader.start count }
@@ -122,9 +122,9 @@ module _ (reader : Reader) (piece : List ℕ) (size : length reader.held ≡ pla
       ∙ ap (λ feeding. fed_for (later added feeding)) e
       ∙ (λ i. record { reader = reads i; taken = one i; heard = Event (answer_for outcome) (starts i) count })
 
-  pub stops_with : (next : List ℕ) (outcome : Outcome Message) (count : ℕ) → length next ≤ places
+  pub stops_with : (next : List ℕ) (outcome : Outcome Record) (count : ℕ) → length next ≤ places
       → feed_of grown (drop added piece) ≡ stopped grown next outcome count
-      → (after : Reader) (fed n size : ℕ) (answer : MessageAnswer)
+      → (after : Reader) (fed n size : ℕ) (answer : RecordAnswer)
       → after ≡ reader_of (line_with next fed reader.stray reader.order) → fed ≡ (reader.fed + (n + 1)) % 2 ^ 32 → n ≡ added → answer ≡ answer_for outcome → size ≡ count
       → record { reader = after; taken = n + 1; heard = Event answer reader.start size } ≡ feed_reader reader piece
   stops_with next outcome count fits e after fed n size answer is_after is_fed is_n is_answer is_size =
@@ -180,6 +180,6 @@ module _ (reader : Reader) (piece : List ℕ) (size : length reader.held ≡ pla
   pub judged : take (reader.len + added) (paste reader.held reader.len piece added) ≡ gathered
   judged = take-paste reader.held reader.len piece added (omega (arith, size, kept.fits)) added_fits.1
 
-pub answered : (answer : MessageAnswer) → answer ≡ answer_for (message_answer answer)
+pub answered : (answer : RecordAnswer) → answer ≡ answer_for (record_answer answer)
 answered (answer.Good rec) = refl
 answered (answer.Refused number) = refl

@@ -1,7 +1,7 @@
 -- Document 02, g, holds of the reader's bound: the end of the line, and the rule. Assumes nothing.
 use Rattle.std.proofs.Common.{◌≡◌, suc, ◌+◌, ◌∷◌, length, refl, ap, ◌∙◌, ap₂, arith}
 use borrow.Author.Tests.{lt-leb}
-use Rattle.message_rules.specs.declared.MessageAnswer.TheVariants as answer
+use Rattle.record_rules.specs.declared.RecordAnswer.TheVariants as answer
 use Rattle.ascii.specs.Control.{stx}
 use Rattle.line_rules.specs.declared.Heard.TheVariants.{Event}
 use Rattle.line.specs.Readers.{well_formed_at}

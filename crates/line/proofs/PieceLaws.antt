@@ -1,6 +1,6 @@
 -- Laws of a piece that is used up: one call more, and the end of it. Assumes nothing.
 use Rattle.std.proofs.Common.{◌≡◌, ℕ, zero, suc, ◌+◌, ◌-◌, ◌<◌, ◌≤◌, Bool, true, false, cond, List, [], ◌∷◌, ◌++◌, map, length, take, drop, set, replicate, sym, ap, ◌∙◌, append_assoc, add-zero, zero-add, add-one, arith, length-drop, take-append-drop, length-take, take_all, drop-drop, take-suc-set, drop-set-lt}
-use Rattle.message_rules.specs.declared.MessageAnswer.{MessageAnswer}
+use Rattle.record_rules.specs.declared.RecordAnswer.{RecordAnswer}
 use Rattle.line.specs.declared.Reader.{Reader}
 use Rattle.line.specs.declared.Fed.{Fed}
 use Rattle.line_rules.specs.declared.Heard.{Heard}
@@ -103,7 +103,7 @@ module _ (whole : Passed) (slots : List Slot) (count taken : ℕ) (reader : Read
   ends_with refusal is =
       sym (no_more_law slots count taken fed.taken refusal fed.reader empty) ∙ sym (so_far ∙ ap (behind slots count taken) (called ∙ is later))
 
-  pub goes_on : {answer : MessageAnswer} {start size : ℕ} → fed.heard ≡ Event answer start size → length slots ≡ room
+  pub goes_on : {answer : RecordAnswer} {start size : ℕ} → fed.heard ≡ Event answer start size → length slots ≡ room
       → whole ≡ behind (set slots count (slot_of fed.heard)) (count + 1) (taken + fed.taken) later
   goes_on {answer} {start} {size} is slot =
       so_far

@@ -1,12 +1,12 @@
 -- Document 02, g, "Longer telegrams": the bound of a reader, in the request's own numbers.
 use Rattle.std.specs.Prelude.{◌≡◌, ℕ, ◌+◌, ◌<◌, ◌≤◌, true, false, List, ◌∷◌, length}
-use Rattle.message_rules.specs.declared.MessageAnswer.TheVariants as answer
+use Rattle.record_rules.specs.declared.RecordAnswer.TheVariants as answer
 use Rattle.trailer_rules.specs.declared.Order.{Order}
-use Rattle.ascii.specs.Control.{stx, all_plain}
+use Rattle.ascii.specs.Control.{stx}
 use Rattle.line.specs.declared.Reader.{Reader}
 use Rattle.line_rules.specs.declared.Heard.TheVariants.{Event}
 use Rattle.line.specs.Readers.{reader_of, well_formed_at, well_formed, end_reader}
-use Rattle.line_rules.specs.Line.{fresh_line}
+use Rattle.line_rules.specs.Line.{fresh_line, all_plain}
 use Rattle.line_rules.specs.Events.{line_after}
 
 abbrev pub TheEndCutsOffUpTo38 : Type 0

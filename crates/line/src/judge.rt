@@ -1,10 +1,10 @@
 // Judging the bytes held when ETX comes.
 ghost use Rattle.std.specs.Prelude.{◌≡◌, min, take};
+ghost use Rattle.record_rules.specs.Answers.{record_answer};
 ghost use Rattle.line_rules.specs.Line.{places, judgement};
-ghost use Rattle.message_rules.specs.Messages.{message_answer};
 
 use super::PLACES;
-use message::MessageAnswer;
+use record::RecordAnswer;
 use telegram::ETX;
 use trailer::Order;
 
@@ -19,8 +19,8 @@ fn capped(len: usize) -> usize
 
 // Reads the first `len` bytes held, with ETX behind them, in the line's order. Every place is copied, so that the compiler moves many
 // at once.
-pub(crate) fn judge(held: [u8; PLACES], len: usize, order: Order) -> MessageAnswer
-    ensures { message_answer result ≡ judgement order (take len held) }
+pub(crate) fn judge(held: [u8; PLACES], len: usize, order: Order) -> RecordAnswer
+    ensures { record_answer result ≡ judgement order (take len held) }
 {
     let size = capped(len);
     let mut whole = [0u8; PLACES + 1];
@@ -31,5 +31,5 @@ pub(crate) fn judge(held: [u8; PLACES], len: usize, order: Order) -> MessageAnsw
     }
     whole[size] = ETX;
     let end = size + 1;
-    message::read::read_in(&whole[0..end], order)
+    telegram::read::read_in(&whole[0..end], true, order)
 }

@@ -12,7 +12,7 @@ ghost use Rattle.line_rules.specs.Runs.{stray_run, WholeAt};
 ghost use Rattle.ascii.specs.Control.{stx};
 
 pub use line_rules::Heard;
-use message::MessageAnswer;
+use record::RecordAnswer;
 use refusals::{ENDED_INSIDE, STATE_ILL_FORMED, STX_INSIDE, TOO_LONG};
 use std::num::{wrapping_add_u32, wrapping_sub_u32};
 use telegram::{ETX, STX};
@@ -191,13 +191,13 @@ fn feed_inside(reader: Reader, piece: &[u8]) -> Fed
         return Fed {
             reader: begun(fed, stray, order),
             taken: taken,
-            heard: Heard::Event(MessageAnswer::Refused(STX_INSIDE), start, size),
+            heard: Heard::Event(RecordAnswer::Refused(STX_INSIDE), start, size),
         };
     }
     Fed {
         reader: outside(fed, stray, order),
         taken: taken,
-        heard: Heard::Event(MessageAnswer::Refused(TOO_LONG), start, LONGEST),
+        heard: Heard::Event(RecordAnswer::Refused(TOO_LONG), start, LONGEST),
     }
 }
 
@@ -226,7 +226,7 @@ fn feed_whole(fed: u32, stray: u32, order: Order, skipped: usize, end: usize, pi
     ensures { result ≡ feed_reader (reader_of (line_with [] fed stray order)) piece.now }
 {
     let taken = end + 1;
-    let answer = message::read::read_in(&piece[skipped..taken], order);
+    let answer = telegram::read::read_in(&piece[skipped..taken], true, order);
     let size = taken - skipped;
     Fed {
         reader: outside(moved(fed, taken), moved(stray, skipped), order),
@@ -339,7 +339,7 @@ impl Reader {
         Ended {
             reader: reader,
             heard: Heard::Event(
-                MessageAnswer::Refused(ENDED_INSIDE),
+                RecordAnswer::Refused(ENDED_INSIDE),
                 self.start,
                 self.len as u32,
             ),

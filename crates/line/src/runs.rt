@@ -1,8 +1,7 @@
 // Plain bytes at the front of a piece, which are held at once.
 ghost use Rattle.std.specs.Prelude.{◌≡◌, ◌-◌, min};
 ghost use Rattle.std.proofs.Math.Seq.{paste};
-ghost use Rattle.ascii.specs.Control.{is_plain};
-ghost use Rattle.line_rules.specs.Line.{places};
+ghost use Rattle.line_rules.specs.Line.{places, is_plain};
 ghost use Rattle.line_rules.specs.Runs.{roomy_run};
 
 use super::PLACES;

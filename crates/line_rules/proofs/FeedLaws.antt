@@ -9,9 +9,9 @@ use lib.Dec.{eqb}
 use lib.ListN.{length, take, drop, length-append}
 use borrow.Author.Tests.{lt-leb, not-true}
 use Rattle.refusals.proofs.Laws.{both}
-use Rattle.ascii.specs.Control.{stx, etx, is_plain}
+use Rattle.ascii.specs.Control.{stx, etx}
 use Rattle.trailer_rules.specs.declared.Order.{Order}
-use Rattle.line_rules.specs.Line.{places, line_with, Line, Feeding, feed_of}
+use Rattle.line_rules.specs.Line.{places, line_with, Line, Feeding, feed_of, is_plain}
 use Rattle.line_rules.specs.Runs.{stray_run, plain_run, roomy_run}
 
 -- a feeding that begins `n` bytes later

@@ -7,8 +7,8 @@ use native.Mathlib.Omega.{arith}
 use lib.Dec.{eqb, leb}
 use lib.ListN.{length, length-append}
 use borrow.Author.Tests.{leb-false}
-use Rattle.ascii.specs.Control.{stx, etx, is_plain, all_plain}
-use Rattle.line_rules.specs.Line.{held_after_at, places, Line, Told, nothing, event, Feeding, stop_or, feed_at, feed_of, told_by_at, step_at, step, is_started}
+use Rattle.ascii.specs.Control.{stx, etx}
+use Rattle.line_rules.specs.Line.{held_after_at, places, Line, Told, nothing, event, Feeding, stop_or, feed_at, feed_of, told_by_at, step_at, step, is_plain, all_plain, is_started}
 use Rattle.refusals.proofs.Laws.{both}
 use Rattle.line_rules.specs.Events.{line_after_at}
 

@@ -8,12 +8,12 @@ use lib.Dec.{eqb}
 use lib.ListN.{length}
 use borrow.Author.Tests.{not-true, le-leb}
 use Rattle.refusals.proofs.Laws.{both}
-use Rattle.message_rules.specs.declared.MessageAnswer.TheVariants as answer
+use Rattle.record_rules.specs.declared.RecordAnswer.TheVariants as answer
 use Rattle.trailer_rules.specs.declared.Order.{Order}
-use Rattle.message_rules.specs.Messages.{message_of}
-use Rattle.ascii.specs.Control.{stx, etx, all_plain}
+use Rattle.telegram_rules.specs.Reading.{read_in}
+use Rattle.ascii.specs.Control.{stx, etx}
 use Rattle.line_rules.specs.declared.Heard.TheVariants.{Event}
-use Rattle.line_rules.specs.Line.{places, Line, line_with, fresh_line, answer_for}
+use Rattle.line_rules.specs.Line.{places, Line, line_with, fresh_line, all_plain, answer_for}
 use Rattle.line_rules.specs.Events.{events_of, line_after}
 use Rattle.line_rules.specs.LongerTelegrams.{UpTo38BytesAreHeld, StxCutsOffUpTo38, TenIsGivenWhen38AreHeld, UpTo39BytesAreJudged}
 use Rattle.line_rules.proofs.EventLaws.{events_join, after_join}
@@ -65,4 +65,4 @@ pub up_to_39_bytes_are_judged : UpTo39BytesAreJudged
 up_to_39_bytes_are_judged order body plain room =
     let size : suc (length body) + 1 ≡ length body + 2 = omega arith in
     then_tells order body plain room etx
-    ∙ ap₂ (λ start size. Event (answer_for (message_of order (stx ∷ body ++ etx ∷ []))) start size ∷ []) (begins_at_0 (length body) room) size
+    ∙ ap₂ (λ start size. Event (answer_for (read_in order true (stx ∷ body ++ etx ∷ []))) start size ∷ []) (begins_at_0 (length body) room) size

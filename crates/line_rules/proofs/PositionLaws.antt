@@ -12,7 +12,7 @@ use borrow.Author.Tests.{eqb-true}
 use Rattle.ascii.specs.Control.{stx, etx}
 use Rattle.line_rules.specs.Line.{places, Line, held_after, step, fresh_line, Told, nothing, event, told_by, start_of, answer_for}
 use Rattle.line_rules.specs.Events.{line_after, tells}
-use Rattle.message_rules.specs.declared.MessageAnswer.{MessageAnswer}
+use Rattle.record_rules.specs.declared.RecordAnswer.{RecordAnswer}
 use Rattle.line_rules.specs.declared.Heard.TheVariants.{Event}
 use Rattle.line_rules.specs.Sentences.{TheStartIsWhereTheHeldBegin, AnEventCarriesThatPosition}
 use Rattle.line_rules.proofs.EventLaws.{good_fresh, good_after}
@@ -69,6 +69,6 @@ an_event_carries_that_position order bytes byte =
     go (told_by line.order line.held byte) (start_of line) (the_start_is_where_the_held_begin order bytes).1
   where
     go : (told : Told) (start : ℕ) {begin : ℕ} → start ≡ begin
-        → (tells told start [] ≡ []) ⊎ ((answer : MessageAnswer) × (size : ℕ) × (tells told start [] ≡ Event answer begin size ∷ []))
+        → (tells told start [] ≡ []) ⊎ ((answer : RecordAnswer) × (size : ℕ) × (tells told start [] ≡ Event answer begin size ∷ []))
     go nothing start is = inl refl
     go (event outcome size) start is = inr (answer_for outcome, size, ap (λ s. Event (answer_for outcome) s size ∷ []) is)

@@ -9,8 +9,8 @@ use lib.Dec.{eqb, ltb}
 use lib.ListN.{length, take, drop, get_or, drop_of_length-le, length-drop, take-append-drop}
 use lib.Seq.{drop-cons, drop-drop, length-take-le, take-nil}
 use borrow.Author.Tests.{eqb-true, ltb-true, ltb-false}
-use Rattle.ascii.specs.Control.{stx, is_plain}
-use Rattle.line_rules.specs.Line.{places}
+use Rattle.ascii.specs.Control.{stx}
+use Rattle.line_rules.specs.Line.{places, is_plain}
 use Rattle.line_rules.specs.Runs.{begins_with_stx, has_stx, stray_run, plain_run, roomy_run}
 
 module _ (piece : List ℕ) (at : ℕ) where

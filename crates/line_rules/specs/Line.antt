@@ -1,12 +1,12 @@
 -- Document 01, "The line, byte by byte", and document 02, f: "the trailer order .. becomes a setting of the line", and g: the bound.
-use Rattle.std.specs.Prelude.{Bool, true, cond, ◌&&◌, List, [], ◌∷◌, ◌++◌, ℕ, ◌+◌, ◌-◌, ◌%◌, ◌^◌, leb, eqb, length}
+use Rattle.std.specs.Prelude.{Bool, true, cond, not, ◌&&◌, List, [], ◌∷◌, ◌++◌, ℕ, ◌+◌, ◌-◌, ◌%◌, ◌^◌, leb, eqb, length}
 use Rattle.refusals.specs.Refusals.{Outcome, done, refused}
+use Rattle.record_rules.specs.declared.Record.{Record}
+use Rattle.record_rules.specs.declared.RecordAnswer.{RecordAnswer}
+use Rattle.record_rules.specs.declared.RecordAnswer.TheVariants as answer
 use Rattle.trailer_rules.specs.declared.Order.{Order}
-use Rattle.message_rules.specs.declared.Message.{Message}
-use Rattle.message_rules.specs.declared.MessageAnswer.{MessageAnswer}
-use Rattle.message_rules.specs.declared.MessageAnswer.TheVariants as answer
-use Rattle.message_rules.specs.Messages.{message_of}
-use Rattle.ascii.specs.Control.{stx, etx, all_plain}
+use Rattle.telegram_rules.specs.Reading.{read_in}
+use Rattle.ascii.specs.Control.{stx, etx}
 use Rattle.line_rules.specs.declared.Heard.{Heard}
 use Rattle.line_rules.specs.declared.Heard.TheVariants.{Nothing, Event}
 
@@ -28,11 +28,11 @@ line_with held fed stray order = record { held = held; fed = fed; stray = stray;
 -- what one byte tells: nothing, or an event with its length
 pub data Told : Type 0 where
   nothing : Told
-  event : Outcome Message → ℕ → Told
+  event : Outcome Record → ℕ → Told
 
 -- "inside, ETX ends it and it is judged", in the line's order
-abbrev pub judgement : Order → List ℕ → Outcome Message
-judgement order held = message_of order (held ++ etx ∷ [])
+abbrev pub judgement : Order → List ℕ → Outcome Record
+judgement order held = read_in order true (held ++ etx ∷ [])
 
 -- "outside a telegram STX begins one; any other byte is stray and counted"; "inside, ETX ends it .. STX gives 9 for
 -- the bytes held and begins a new telegram with itself. Any other byte is held, but if" as many as the bound "are already held it gives
@@ -106,13 +106,20 @@ abbrev pub fresh_line : Order → Line
 fresh_line order = line_with [] 0 0 order
 
 -- of the bytes held, "if any, the first is STX and no other is STX or ETX"
+abbrev pub is_plain : ℕ → Bool
+is_plain byte = not (eqb byte stx) && not (eqb byte etx)
+
+abbrev pub all_plain : List ℕ → Bool
+all_plain [] = true
+all_plain (byte ∷ bytes) = is_plain byte && all_plain bytes
+
 abbrev pub is_started : List ℕ → Bool
 is_started [] = true
 is_started (first ∷ held) = eqb first stx && all_plain held
 
 -- what is handed out: for each case the paper's number and values
-abbrev pub answer_for : Outcome Message → MessageAnswer
-answer_for (done message) = answer.Good message
+abbrev pub answer_for : Outcome Record → RecordAnswer
+answer_for (done rec) = answer.Good rec
 answer_for (refused number) = answer.Refused number
 
 abbrev pub heard_for : Told → ℕ → Heard

@@ -1,12 +1,12 @@
 -- Document 02, g, "Longer telegrams": the bound, in the request's own numbers. A telegram on a fresh line is STX and bytes that are
 -- neither STX nor ETX, which are called plain.
 use Rattle.std.specs.Prelude.{true, List, [], ◌∷◌, ◌++◌, ◌≡◌, ℕ, ◌+◌, ◌≤◌, length}
+use Rattle.record_rules.specs.declared.RecordAnswer.TheVariants as answer
 use Rattle.trailer_rules.specs.declared.Order.{Order}
-use Rattle.message_rules.specs.declared.MessageAnswer.TheVariants as answer
-use Rattle.message_rules.specs.Messages.{message_of}
-use Rattle.ascii.specs.Control.{stx, etx, is_plain, all_plain}
+use Rattle.telegram_rules.specs.Reading.{read_in}
+use Rattle.ascii.specs.Control.{stx, etx}
 use Rattle.line_rules.specs.declared.Heard.TheVariants.{Event}
-use Rattle.line_rules.specs.Line.{fresh_line, answer_for}
+use Rattle.line_rules.specs.Line.{fresh_line, is_plain, all_plain, answer_for}
 use Rattle.line_rules.specs.Events.{events_of, line_after}
 
 -- "the reader then holds 0 to 38 bytes": STX and up to 37 behind it tell nothing, and all of them are held
@@ -34,4 +34,4 @@ abbrev pub UpTo39BytesAreJudged : Type 0
 UpTo39BytesAreJudged =
     (order : Order) (body : List ℕ) → all_plain body ≡ true → length body ≤ 37
     → events_of (fresh_line order) (stx ∷ body ++ etx ∷ [])
-    ≡ Event (answer_for (message_of order (stx ∷ body ++ etx ∷ []))) 0 (length body + 2) ∷ []
+    ≡ Event (answer_for (read_in order true (stx ∷ body ++ etx ∷ []))) 0 (length body + 2) ∷ []

@@ -1,7 +1,7 @@
 -- The words of the line's private functions: runs of bytes at the front of a piece that are taken alike.
 use Rattle.std.specs.Prelude.{Bool, false, cond, ◌||◌, List, [], ◌∷◌, ◌≡◌, ℕ, suc, ◌+◌, ◌-◌, ◌<◌, eqb, length, take, drop, get_or}
-use Rattle.ascii.specs.Control.{stx, etx, is_plain}
-use Rattle.line_rules.specs.Line.{places}
+use Rattle.ascii.specs.Control.{stx, etx}
+use Rattle.line_rules.specs.Line.{places, is_plain}
 
 -- whether the first byte is an STX, and whether any byte is
 abbrev pub begins_with_stx : List ℕ → Bool

@@ -1,11 +1,11 @@
 // What a serial line tells, byte by byte: no code, and no reader.
-use message_rules::MessageAnswer;
+use record_rules::RecordAnswer;
 
 #[derive(Drop)]
 pub enum Heard {
     Nothing,
     // A telegram judged, or bytes refused: the outcome, the position of the first byte, the number of bytes.
-    Event(MessageAnswer, u32, u32),
+    Event(RecordAnswer, u32, u32),
     // The reader's state is not well formed: no event, and no byte taken.
     Refused(u8),
 }

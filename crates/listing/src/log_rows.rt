@@ -8,7 +8,7 @@ ghost use Rattle.listing_rules.specs.Answers.{row_answer};
 
 use super::rows::{columns, refused_row};
 use super::{RowAnswer, TEXT_ROOM, append, decimal, lay, push};
-use message::Message;
+use record::Record;
 use refusals::NONE;
 
 // A block's number and the offset of its first byte.
@@ -29,11 +29,11 @@ pub fn header(out: &mut [u8]) -> RowAnswer
     lay(row, row.len(), out)
 }
 
-// The row of the telegram in a slot. A message that no telegram could carry has no row: 5 to 8; then 13 for a buffer that is too short.
-pub fn slot_row(block: u64, slot: u8, message: Message, out: &mut [u8]) -> RowAnswer
-    ensures { laid (telegram_row block slot message) out.old ≡ (row_answer result, out.new) }
+// The row of the telegram in a slot. A record that no telegram could carry has no row: 5 to 8; then 13 for a buffer that is too short.
+pub fn slot_row(block: u64, slot: u8, rec: Record, out: &mut [u8]) -> RowAnswer
+    ensures { laid (telegram_row block slot rec) out.old ≡ (row_answer result, out.new) }
 {
-    let refused = message::rule::refusal(message);
+    let refused = record::rule::refusal(rec);
     if refused != NONE {
         return RowAnswer::Refused(refused);
     }
@@ -42,7 +42,7 @@ pub fn slot_row(block: u64, slot: u8, message: Message, out: &mut [u8]) -> RowAn
     let len = push(&mut text, len, b';');
     let len = decimal(&mut text, len, slot as u64);
     let len = push(&mut text, len, b';');
-    let len = columns(&mut text, len, message);
+    let len = columns(&mut text, len, rec);
     lay(&text, len, out)
 }
 

@@ -3,17 +3,15 @@ ghost use Rattle.std.specs.Prelude.{◌≡◌};
 ghost use Rattle.refusals.specs.Refusals.{done};
 ghost use Rattle.lent_buffer.specs.Laying.{laid};
 ghost use Rattle.listing_rules.specs.Listing.{header_row, dated_kind, time_kind, date_column, time_column, reception_word, season_word, status_column};
-ghost use Rattle.listing_rules.specs.Listing.{dated_columns, time_only_columns, record_columns, command_kind, command_columns, columns, message_row, refused_row, event_row, stray_row};
+ghost use Rattle.listing_rules.specs.Listing.{dated_columns, time_only_columns, columns, record_row, refused_row, event_row, stray_row};
 ghost use Rattle.listing.specs.Texts.{text_of, appended};
 ghost use Rattle.listing_rules.specs.Answers.{row_answer};
 
 use super::{RowAnswer, TEXT_ROOM, append, append_if, decimal, digit, four, lay, push, two};
 use calendar::date::Date;
 use calendar::time::Time;
-use message::{Message, MessageAnswer};
-use record::{DatedLayout, Reception, Record, Status, TimeLayout};
+use record::{DatedLayout, Reception, Record, RecordAnswer, Status, TimeLayout};
 use refusals::NONE;
-use remote::Command;
 
 fn dated_kind(text: &mut [u8; TEXT_ROOM], len: usize, layout: DatedLayout) -> usize
     ensures { text_of text.new result ≡ appended (text_of text.old len) (dated_kind layout) }
@@ -123,8 +121,9 @@ fn time_only_columns(
     append(text, len, b";-;-\n")
 }
 
-fn record_columns(text: &mut [u8; TEXT_ROOM], len: usize, rec: Record) -> usize
-    ensures { text_of text.new result ≡ appended (text_of text.old len) (record_columns rec) }
+// The columns behind the place of a telegram: all that its record says.
+pub(crate) fn columns(text: &mut [u8; TEXT_ROOM], len: usize, rec: Record) -> usize
+    ensures { text_of text.new result ≡ appended (text_of text.old len) (columns rec) }
 {
     match rec {
         Record::Dated(layout, status, weekday, date, time) => {
@@ -134,44 +133,13 @@ fn record_columns(text: &mut [u8; TEXT_ROOM], len: usize, rec: Record) -> usize
     }
 }
 
-// A command's three letters, whether it carries or asks.
-fn command_kind(text: &mut [u8; TEXT_ROOM], len: usize, command: Command) -> usize
-    ensures { text_of text.new result ≡ appended (text_of text.old len) (command_kind command) }
-{
-    match command {
-        Command::Tim(_, _) => append(text, len, b"TIM"),
-        Command::TimAsked(_) => append(text, len, b"TIM"),
-        Command::Dif(_) => append(text, len, b"DIF"),
-        Command::DifAsked => append(text, len, b"DIF"),
-        Command::Pos(_) => append(text, len, b"POS"),
-        Command::PosAsked => append(text, len, b"POS"),
-    }
-}
-
-fn command_columns(text: &mut [u8; TEXT_ROOM], len: usize, command: Command) -> usize
-    ensures { text_of text.new result ≡ appended (text_of text.old len) (command_columns command) }
-{
-    let len = command_kind(text, len, command);
-    append(text, len, b";-;-;-;-\n")
-}
-
-// The columns behind the place of a telegram: all that its record says, or a command's kind.
-pub(crate) fn columns(text: &mut [u8; TEXT_ROOM], len: usize, message: Message) -> usize
-    ensures { text_of text.new result ≡ appended (text_of text.old len) (columns message) }
-{
-    match message {
-        Message::Stamp(rec) => record_columns(text, len, rec),
-        Message::Remote(command) => command_columns(text, len, command),
-    }
-}
-
-fn message_row(start: u32, message: Message, out: &mut [u8]) -> RowAnswer
-    ensures { laid (done (message_row start message)) out.old ≡ (row_answer result, out.new) }
+fn record_row(start: u32, rec: Record, out: &mut [u8]) -> RowAnswer
+    ensures { laid (done (record_row start rec)) out.old ≡ (row_answer result, out.new) }
 {
     let mut text = [0u8; TEXT_ROOM];
     let len = decimal(&mut text, 0, start as u64);
     let len = push(&mut text, len, b';');
-    let len = columns(&mut text, len, message);
+    let len = columns(&mut text, len, rec);
     lay(&text, len, out)
 }
 
@@ -194,19 +162,19 @@ pub fn header(out: &mut [u8]) -> RowAnswer
     lay(row, row.len(), out)
 }
 
-// The row of an event: where it starts, and the message that was read or the number that it was refused with.
-// A message that no telegram could carry has no row: 5 to 8; then 13 for a buffer that is too short.
-pub fn row(start: u32, answer: MessageAnswer, out: &mut [u8]) -> RowAnswer
+// The row of an event: where it starts, and the record that was read or the number that it was refused with.
+// A record that no telegram could carry has no row: 5 to 8; then 13 for a buffer that is too short.
+pub fn row(start: u32, answer: RecordAnswer, out: &mut [u8]) -> RowAnswer
     ensures { laid (event_row start answer) out.old ≡ (row_answer result, out.new) }
 {
     match answer {
-        MessageAnswer::Refused(number) => refused_row(start as u64, number, out),
-        MessageAnswer::Good(message) => {
-            let refused = message::rule::refusal(message);
+        RecordAnswer::Refused(number) => refused_row(start as u64, number, out),
+        RecordAnswer::Good(rec) => {
+            let refused = record::rule::refusal(rec);
             if refused != NONE {
                 return RowAnswer::Refused(refused);
             }
-            message_row(start, message, out)
+            record_row(start, rec, out)
         }
     }
 }

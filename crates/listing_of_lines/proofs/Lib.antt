@@ -1,4 +1,5 @@
 pub mod PageLaws
+pub mod NumberLaws
 pub mod WholeLaws
 pub mod RoomLaws
 pub mod AsPrintedHolds

@@ -19,7 +19,7 @@ use Rattle.line_rules.proofs.GoodLines.{Good, good_feed}
 use Rattle.line.proofs.StaysGood.{feed_good, reader_of_good}
 use Rattle.line_rules.proofs.EventLaws.{feed_parts, some_by, shorter, good_fresh}
 use Rattle.listing_rules.specs.Listing.{longest_row}
-use Rattle.listing_rules.proofs.RowLaws.{message_short, refused_short}
+use Rattle.listing_rules.proofs.RowLaws.{record_short, refused_short}
 use Rattle.listing_of_lines.specs.Pages.{row_for, Underway, behind_call, next_row, rows_in, page_for, page_of}
 use Rattle.listing_of_lines.specs.Whole.{row_of_event, rows_of, turns_with, lent_with, AllListed, EveryCutCanBeListed}
 use Rattle.listing_of_lines.proofs.PageLaws.{comes_some, comes_none, page_good, left_tail}
@@ -65,7 +65,7 @@ at_fits line (byte ∷ piece) =
 
 row_short : (told : Told) (at : ℕ) → at < 2 ^ 32 → Sound told → length (row_of_event (heard_for told at)) ≤ longest_row
 row_short nothing at fits sound = omega arith
-row_short (event (done message) size) at fits sound = message_short at fits message
+row_short (event (done rec) size) at fits sound = record_short at fits rec
 row_short (event (refused n) size) at fits sound = refused_short at n (omega arith) sound
 
 -- so a call takes a byte at least

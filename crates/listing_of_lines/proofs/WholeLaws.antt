@@ -1,7 +1,6 @@
 -- What is laid for a line, however it is cut and whatever buffers are lent, is the listing of the line. Assumes nothing.
 use mathlib.Core.Path.{◌≡◌, refl, ap, ap₂, sym, ◌∙◌, subst, subst⁻¹}
 use mathlib.Core.Bool.{Bool, true, false, cond}
-use mathlib.Core.Logic.{inl, inr}
 use mathlib.Core.List.{List, [], ◌∷◌, ◌++◌, map, map-append, append_assoc, append-nil}
 use Prim.Native.Nat.{ℕ, ◌+◌, ◌^◌, ◌<◌}
 use Prim.{Unit, tt}
@@ -13,10 +12,10 @@ use Rattle.refusals.specs.Refusals.{Outcome, done, refused}
 use Rattle.refusals.proofs.Laws.{does}
 use Rattle.lent_buffer.specs.OneBehindAnother.{part, joined, one_behind_another}
 use Rattle.lent_buffer.proofs.OneBehindAnotherLaws.{joined_behind, stands_by}
-use Rattle.message_rules.specs.declared.Message.{Message}
-use Rattle.message_rules.specs.Messages.{message_of, refusal_of}
-use Rattle.message_rules.proofs.MessageLaws.{accepted}
-use Rattle.message_rules.proofs.NumberLaws.{ReadingNumber, message_number}
+use Rattle.record_rules.specs.declared.Record.{Record}
+use Rattle.record_rules.specs.Rule.{refusal_of}
+use Rattle.telegram_rules.specs.Reading.{read_in}
+use Rattle.telegram_rules.proofs.InOrder.{accepted}
 use Rattle.trailer_rules.specs.declared.Order.{Order}
 use Rattle.line.specs.declared.Reader.{Reader}
 use Rattle.line_rules.specs.declared.Heard.{Heard}
@@ -27,28 +26,25 @@ use Rattle.line_rules.specs.Events.{events_of, line_after, heard_then}
 use Rattle.line_rules.proofs.GoodLines.{Good, good_feed}
 use Rattle.line.proofs.StaysGood.{feed_good, end_good, reader_of_good}
 use Rattle.line_rules.proofs.EventLaws.{feed_parts, events_join, after_join, good_after, good_fresh}
-use Rattle.listing_rules.specs.Listing.{header_row, message_row, stray_row}
+use Rattle.listing_rules.specs.Listing.{header_row, record_row, stray_row}
 use Rattle.listing_of_lines.specs.Pages.{row_for, Underway, behind_call, next_row, rows_in, Page, page_of}
 use Rattle.listing_of_lines.specs.Whole.{row_of_event, rows_of, listing_in, Turns, turns_with, Lent, bytes_lent, rows_laid, reader_left, AllListed, WhatIsLaidIsTheListing}
+use Rattle.listing_of_lines.proofs.NumberLaws.{read_number}
 use Rattle.listing_of_lines.proofs.PageLaws.{came, page_good, page_left}
 
--- a message that the line hands out is good, and a number that it gives is a byte
+-- a record that the line hands out is good, and a number that it gives is a byte
 abbrev pub Sound : Told → Type 0
 Sound nothing = Unit
-Sound (event (done message) size) = refusal_of message ≡ 0
+Sound (event (done rec) size) = refusal_of rec ≡ 0
 Sound (event (refused n) size) = n < 2 ^ 8
 
-number_fits : (n : ℕ) → ReadingNumber n → n < 2 ^ 8
-number_fits n (inl small) = omega arith
-number_fits n (inr same) = omega (arith, same)
-
-sound_read : (order : Order) (bytes : List ℕ) (size : ℕ) (outcome : Outcome Message) → message_of order bytes ≡ outcome → Sound (event outcome size)
-sound_read order bytes size (done message) e = (accepted order bytes message e).is_good_law
-sound_read order bytes size (refused n) e = number_fits n (message_number order bytes n e)
+sound_read : (order : Order) (bytes : List ℕ) (size : ℕ) (outcome : Outcome Record) → read_in order true bytes ≡ outcome → Sound (event outcome size)
+sound_read order bytes size (done rec) e = (accepted order true bytes rec e).is_good_law
+sound_read order bytes size (refused n) e = omega (arith, read_number order true bytes n e)
 
 sound_inside : (order : Order) (bytes : List ℕ) (size held longest : ℕ) (etx stx full : Bool)
-    → Sound (cond etx (event (message_of order bytes) size) (cond stx (event (refused 9) held) (cond full (event (refused 10) longest) nothing)))
-sound_inside order bytes size held longest true stx full = sound_read order bytes size (message_of order bytes) refl
+    → Sound (cond etx (event (read_in order true bytes) size) (cond stx (event (refused 9) held) (cond full (event (refused 10) longest) nothing)))
+sound_inside order bytes size held longest true stx full = sound_read order bytes size (read_in order true bytes) refl
 sound_inside order bytes size held longest false true full = omega arith
 sound_inside order bytes size held longest false false true = omega arith
 sound_inside order bytes size held longest false false false = tt
@@ -69,7 +65,7 @@ sound_feed line (byte ∷ piece) =
 -- so what is heard has its row
 pub row_told : (told : Told) (at : ℕ) → Sound told → row_for (heard_for told at) ≡ done (row_of_event (heard_for told at))
 row_told nothing at sound = refl
-row_told (event (done message) size) at sound = does (message_row at message) sound
+row_told (event (done rec) size) at sound = does (record_row at rec) sound
 row_told (event (refused n) size) at sound = refl
 
 pub rows_then : (heard : Heard) (later : List Heard) → rows_of (heard_then heard [] ++ later) ≡ row_of_event heard ++ rows_of later

@@ -8,7 +8,6 @@ use Rattle.record_rules.specs.Rule.{plain_utc, table_can_say, status_allowed, we
 use Rattle.layouts_rules.specs.Layouts.{places_of, layout_of}
 use Rattle.layouts_rules.specs.Coding.{status_in6021, status_in5500}
 use Rattle.telegram_rules.specs.Reading.{carried, body_refusal, read_in}
-use Rattle.message_rules.specs.Messages.{message_of}
 use Rattle.log_rules.specs.Check.{check_of}
 use Rattle.log_rules.specs.Block.{filled, slot_of, body_of, sealed}
 use Rattle.log_rules.specs.Good.{telegram_in, telegrams_of, reads_well, is_kept, is_good}
@@ -22,7 +21,7 @@ use Rattle.listing_of_logs.specs.AsPrinted.{TheListingsOfALogAreAsPrinted}
 pub as_printed_law : TheListingsOfALogAreAsPrinted
 unfolding unless is_decimal is_capital code_value is_leap month_length month_in_range date_in_range day_exists month_start day_of time_in_range time_allowed
     time_alone_allowed time_alone_refusal plain_utc table_can_say status_allowed weekday_allowed weekday_agrees dated_refusal places_of layout_of status_in6021
-    status_in5500 carried body_refusal read_in message_of check_of filled slot_of body_of sealed telegram_in telegrams_of reads_well is_kept is_good decimal decimal_within
+    status_in5500 carried body_refusal read_in check_of filled slot_of body_of sealed telegram_in telegrams_of reads_well is_kept is_good decimal decimal_within
     status_column dated_columns time_only_columns refused_row log_header slot_row verify_header good_row bad_row tail_row bad_count row_of block_rows offset_of
     verified_row log_listing verify_listing
 as_printed_law = (refl, refl)

@@ -12,10 +12,9 @@ use Rattle.refusals.specs.Refusals.{Outcome, done, refused, after}
 use Rattle.refusals.proofs.Laws.{does}
 use Rattle.lent_buffer.specs.Laying.{laid}
 use Rattle.lent_buffer.proofs.LayingLaws.{laid_short, laid_fits}
-use Rattle.message_rules.specs.declared.Message.{Message}
-use Rattle.trailer_rules.specs.declared.Order.TheVariants.{AsPrinted}
-use Rattle.message_rules.specs.Messages.{message_of}
-use Rattle.message_rules.proofs.MessageLaws.{accepted}
+use Rattle.record_rules.specs.declared.Record.{Record}
+use Rattle.telegram_rules.specs.Reading.{read_of}
+use Rattle.telegram_rules.proofs.BackAndForth.{accepted_is_written}
 use Rattle.log_rules.specs.Good.{count_in, telegram_in, telegrams_of, is_done, reads_well, is_good}
 use Rattle.log_rules.proofs.BlockLaws.{count_telegrams}
 use Rattle.listing_rules.specs.LogRows.{slot_row, telegram_row, block_row, good_row, bad_row, longest_log_row}
@@ -37,7 +36,7 @@ slot_part slot end some e = go (leb (get_or slot 0 0 + 1) (length slot)) refl
         take_all (end - 1) (drop 1 slot) (omega (arith, length-drop 1 slot)) ∙ sym (take_all (get_or slot 0 0) (drop 1 slot) (omega (arith, length-drop 1 slot)))
 
 -- what was read decides the row
-pub row_read : (number slot : ℕ) (telegram : List ℕ) (read : Outcome Message) → read ≡ message_of AsPrinted telegram
+pub row_read : (number slot : ℕ) (telegram : List ℕ) (read : Outcome Record) → read ≡ read_of true telegram
     → row_of number slot telegram ≡ after read (telegram_row number slot)
 unfolding row_of
 row_read number slot telegram read e = ap (λ o. after o (telegram_row number slot)) (sym e)
@@ -50,14 +49,14 @@ pub record HasRow (number slot : ℕ) (telegram : List ℕ) : Type 0 where
 
 pub has_row : (number slot : ℕ) (telegram : List ℕ) → number < 2 ^ 64 → slot < 2 ^ 8 → reads_well telegram ≡ true → HasRow number slot telegram
 unfolding reads_well
-has_row number slot telegram wide small reads = go (message_of AsPrinted telegram) refl reads
+has_row number slot telegram wide small reads = go (read_of true telegram) refl reads
   where
-    go : (read : Outcome Message) → message_of AsPrinted telegram ≡ read → is_done read ≡ true → HasRow number slot telegram
-    go (done message) e done_is =
+    go : (read : Outcome Record) → read_of true telegram ≡ read → is_done read ≡ true → HasRow number slot telegram
+    go (done rec) e done_is =
         record {
-          row = slot_row number slot message;
-          is = row_read number slot telegram (done message) (sym e) ∙ does (slot_row number slot message) (accepted AsPrinted telegram message e).is_good_law;
-          short = slot_short number slot wide small message;
+          row = slot_row number slot rec;
+          is = row_read number slot telegram (done rec) (sym e) ∙ does (slot_row number slot rec) (accepted_is_written true telegram rec e).is_good_law;
+          short = slot_short number slot wide small rec;
         }
     go (refused n) e done_is = let z : ◌≡◌ {A = ℕ} 0 1 = cc in absurd (omega arith)
 

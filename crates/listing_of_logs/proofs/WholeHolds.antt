@@ -1,20 +1,19 @@
 -- The listings of files that have no block, and the room that the rows of a block need. Assumes nothing.
-use mathlib.Core.Path.{◌≡◌, refl, ap}
+use mathlib.Core.Path.{◌≡◌, refl, ap, ◌∙◌}
 use mathlib.Core.Bool.{Bool, true, false}
 use mathlib.Core.List.{List, [], ◌∷◌}
 use Prim.Native.Nat.{ℕ, zero, suc, ◌+◌, ◌*◌, ◌^◌, ◌≤◌, ◌<◌}
 use native.Mathlib.Omega.{arith}
 use lib.ListN.{length, length-append}
 use Rattle.refusals.specs.Refusals.{Outcome, done, refused, unless}
-use Rattle.message_rules.specs.declared.Message.{Message}
-use Rattle.message_rules.specs.Messages.{refusal_of}
-use Rattle.trailer_rules.specs.declared.Order.TheVariants.{AsPrinted}
-use Rattle.message_rules.specs.Messages.{message_of}
+use Rattle.record_rules.specs.declared.Record.{Record}
+use Rattle.record_rules.specs.Rule.{refusal_of}
+use Rattle.telegram_rules.specs.Reading.{read_of}
 use Rattle.log_rules.specs.Good.{telegrams_of, is_good}
 use Rattle.log_rules.proofs.BlockLaws.{good_kept, kept_count}
 use Rattle.listing_rules.specs.Decimals.{decimal, decimal_within}
 use Rattle.listing_rules.specs.Listing.{refused_row}
-use Rattle.listing_rules.specs.LogRows.{log_header, slot_row, verify_header, tail_row, bad_count, longest_log_row}
+use Rattle.listing_rules.specs.LogRows.{log_header, slot_row, telegram_row, verify_header, tail_row, bad_count, longest_log_row}
 use Rattle.listing_rules.proofs.RowLaws.{refused_short}
 use Rattle.listing_rules.proofs.LogRowLaws.{slot_short}
 use Rattle.listing_of_logs.specs.LogPages.{row_of, bytes_of, rows_from, block_rows, offset_of, page_room}
@@ -27,16 +26,16 @@ no_block = (refl, refl, refl, refl)
 
 module _ (number : ℕ) (wide : number < 2 ^ 64) where
   -- a row is no longer than the longest, and where there is none there is no byte
-  unless_short : (slot : ℕ) → slot < 2 ^ 8 → (message : Message) (n : ℕ) → length (bytes_of (unless n (slot_row number slot message))) ≤ longest_log_row
+  unless_short : (slot : ℕ) → slot < 2 ^ 8 → (rec : Record) (n : ℕ) → length (bytes_of (unless n (slot_row number slot rec))) ≤ longest_log_row
   unfolding unless
-  unless_short slot small message zero = slot_short number slot wide small message
-  unless_short slot small message (suc n) = omega arith
+  unless_short slot small rec zero = slot_short number slot wide small rec
+  unless_short slot small rec (suc n) = omega arith
 
   row_short : (slot : ℕ) (telegram : List ℕ) → slot < 2 ^ 8 → length (bytes_of (row_of number slot telegram)) ≤ longest_log_row
-  row_short slot telegram small = go (message_of AsPrinted telegram) refl
+  row_short slot telegram small = go (read_of true telegram) refl
     where
-      go : (read : Outcome Message) → read ≡ message_of AsPrinted telegram → length (bytes_of (row_of number slot telegram)) ≤ longest_log_row
-      go (done message) e = omega (arith, ap (λ o. length (bytes_of o)) (row_read number slot telegram (done message) e), unless_short slot small message (refusal_of message))
+      go : (read : Outcome Record) → read ≡ read_of true telegram → length (bytes_of (row_of number slot telegram)) ≤ longest_log_row
+      go (done rec) e = omega (arith, ap (λ o. length (bytes_of o)) (row_read number slot telegram (done rec) e), unless_short slot small rec (refusal_of rec))
       go (refused n) e = omega (arith, ap (λ o. length (bytes_of o)) (row_read number slot telegram (refused n) e))
 
   rows_short : (slot : ℕ) (telegrams : List (List ℕ)) → slot + length telegrams ≤ 2 ^ 8 → length (rows_from number slot telegrams) ≤ length telegrams * longest_log_row

@@ -1,15 +1,14 @@
 -- What the two listings of a log say of one block, as bytes.
-use Rattle.std.specs.Prelude.{cond, List, [], ◌∷◌, ◌++◌, ℕ, suc, ◌*◌, ◌%◌, ◌^◌, length}
+use Rattle.std.specs.Prelude.{true, cond, List, [], ◌∷◌, ◌++◌, ℕ, suc, ◌*◌, ◌%◌, ◌^◌, length}
 use Rattle.refusals.specs.Refusals.{Outcome, done, refused, after}
-use Rattle.trailer_rules.specs.declared.Order.TheVariants.{AsPrinted}
-use Rattle.message_rules.specs.Messages.{message_of}
+use Rattle.telegram_rules.specs.Reading.{read_of}
 use Rattle.log_rules.specs.Block.{slots, block_size}
 use Rattle.log_rules.specs.Good.{telegrams_of, is_good}
 use Rattle.listing_rules.specs.LogRows.{telegram_row, block_row, good_row, bad_row, longest_log_row}
 
 -- the row of a telegram in a slot; one that does not read has none, but its own number
 unfoldable pub row_of : ℕ → ℕ → List ℕ → Outcome (List ℕ)
-row_of number slot telegram = after (message_of AsPrinted telegram) (telegram_row number slot)
+row_of number slot telegram = after (read_of true telegram) (telegram_row number slot)
 
 abbrev pub bytes_of : Outcome (List ℕ) → List ℕ
 bytes_of (done bytes) = bytes

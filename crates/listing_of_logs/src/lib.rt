@@ -2,9 +2,8 @@
 ghost use Rattle.std.specs.Prelude.{true, ◌≡◌, ◌≤◌, ◌<◌, min, length, take};
 ghost use Rattle.refusals.specs.Refusals.{done};
 ghost use Rattle.lent_buffer.specs.Laying.{laid};
-ghost use Rattle.message_rules.specs.Messages.{message_answer};
-ghost use Rattle.trailer_rules.specs.declared.Order.TheVariants.{AsPrinted};
-ghost use Rattle.message_rules.specs.Messages.{message_of};
+ghost use Rattle.record_rules.specs.Answers.{record_answer};
+ghost use Rattle.telegram_rules.specs.Reading.{read_of};
 ghost use Rattle.log_rules.specs.Good.{telegram_in, telegrams_of, is_good};
 ghost use Rattle.listing_rules.specs.Answers.{row_answer};
 ghost use Rattle.listing_of_logs.specs.LogPages.{row_of, rows_from, block_rows, offset_of, verified_row, page_room};
@@ -13,7 +12,7 @@ use listing::log_rows::{bad_row, block_row, good_row, slot_row};
 use listing::{LONGEST_LOG_ROW, RowAnswer};
 use log::block::is_good;
 use log::{BLOCK_SIZE, COUNT_PLACE, SLOT_SIZE, SLOTS};
-use message::MessageAnswer;
+use record::RecordAnswer;
 use refusals::{BLOCK_BAD, BUFFER_SHORT};
 
 // Room for the rows of any block.
@@ -38,14 +37,14 @@ fn smaller(a: usize, b: usize) -> usize
     b
 }
 
-// The message of the telegram in a slot.
-fn read_slot(slot: &[u8]) -> MessageAnswer
+// The record of the telegram in a slot.
+fn read_slot(slot: &[u8]) -> RecordAnswer
     requires { 0 < length slot.now }
-    ensures { message_answer result ≡ message_of AsPrinted (telegram_in slot.now) }
+    ensures { record_answer result ≡ read_of true (telegram_in slot.now) }
 {
     let size = slot[0] as usize;
     let end = smaller(size + 1, slot.len());
-    message::read::read(&slot[1..end])
+    telegram::read::read(&slot[1..end], true)
 }
 
 // The row of the telegram in a slot. One that does not read has none, but its own number; then 13 for a buffer that is too short.
@@ -54,8 +53,8 @@ fn lay_row(number: u64, at: u8, slot: &[u8], out: &mut [u8]) -> RowAnswer
     ensures { laid (row_of number at (telegram_in slot.now)) out.old ≡ (row_answer result, out.new) }
 {
     match read_slot(slot) {
-        MessageAnswer::Good(message) => slot_row(number, at, message, out),
-        MessageAnswer::Refused(refusal) => RowAnswer::Refused(refusal),
+        RecordAnswer::Good(rec) => slot_row(number, at, rec, out),
+        RecordAnswer::Refused(refusal) => RowAnswer::Refused(refusal),
     }
 }
 

@@ -3,7 +3,7 @@ use Prim.Native.Nat.{ℕ, ◌^◌, ◌≤◌, ◌<◌}
 use native.Mathlib.Omega.{arith}
 use lib.Dec.{lit≤}
 use lib.ListN.{length, length-append}
-use Rattle.message_rules.specs.declared.Message.{Message}
+use Rattle.record_rules.specs.declared.Record.{Record}
 use Rattle.listing_rules.specs.LogRows.{log_header, slot_row, verify_header, good_row, bad_row, tail_row, bad_count, longest_log_row}
 use Rattle.listing_rules.proofs.RowLaws.{wide_length, number_length, columns_length}
 
@@ -15,10 +15,10 @@ pub verify_header_short : length verify_header ≤ longest_log_row
 unfolding verify_header
 verify_header_short = lit≤ tt
 
-pub slot_short : (block slot : ℕ) → block < 2 ^ 64 → slot < 2 ^ 8 → (message : Message) → length (slot_row block slot message) ≤ longest_log_row
+pub slot_short : (block slot : ℕ) → block < 2 ^ 64 → slot < 2 ^ 8 → (rec : Record) → length (slot_row block slot rec) ≤ longest_log_row
 unfolding slot_row
-slot_short block slot wide small message =
-    simp length-append (omega (arith, wide_length block wide, number_length slot small, columns_length message))
+slot_short block slot wide small rec =
+    simp length-append (omega (arith, wide_length block wide, number_length slot small, columns_length rec))
 
 pub bad_count_short : (bad : ℕ) → bad < 2 ^ 64 → length (bad_count bad) ≤ longest_log_row
 unfolding bad_count

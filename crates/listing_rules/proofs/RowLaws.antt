@@ -21,15 +21,11 @@ use Rattle.record_rules.specs.declared.Reception.TheVariants.{Invalid, Crystal, 
 use Rattle.record_rules.specs.declared.Status.{Status}
 use Rattle.record_rules.specs.declared.Record.{Record}
 use Rattle.record_rules.specs.declared.Record.TheVariants.{Dated, TimeOnly}
-use Rattle.remote_rules.specs.declared.Command.{Command}
-use Rattle.remote_rules.specs.declared.Command.TheVariants.{Tim, TimAsked, Dif, DifAsked, Pos, PosAsked}
-use Rattle.message_rules.specs.declared.Message.{Message}
-use Rattle.message_rules.specs.declared.Message.TheVariants.{Stamp, Remote}
-use Rattle.message_rules.specs.Messages.{refusal_of}
+use Rattle.record_rules.specs.Rule.{refusal_of}
 use Rattle.ascii.specs.Ascii.{ascii}
 use Rattle.listing_rules.specs.Decimals.{decimal}
 use Rattle.listing_rules.specs.Listing.{header_row, dated_kind, time_kind, reception_word, season_word, status_column, dated_columns}
-use Rattle.listing_rules.specs.Listing.{time_only_columns, record_columns, command_kind, command_columns, columns, message_row, refused_row, stray_row, longest_row}
+use Rattle.listing_rules.specs.Listing.{time_only_columns, columns, record_row, refused_row, stray_row, longest_row}
 use Rattle.listing_rules.proofs.DecimalLaws.{few_digits}
 
 dated_kind_length : (layout : DatedLayout) → length (dated_kind layout) ≡ 4
@@ -84,33 +80,17 @@ unfolding time_only_columns
 time_only_length layout time = simp length-append (omega (arith, time_kind_length layout))
 
 -- the columns behind the place of a telegram
-record_length : (rec : Record) → length (record_columns rec) ≤ 58
-record_length (Dated layout status weekday date time) = dated_length layout status weekday date time
-record_length (TimeOnly layout time) = time_only_length layout time
-
-command_kind_length : (command : Command) → length (command_kind command) ≡ 3
-command_kind_length (Tim status moment) = refl
-command_kind_length (TimAsked status) = refl
-command_kind_length (Dif difference) = refl
-command_kind_length DifAsked = refl
-command_kind_length (Pos position) = refl
-command_kind_length PosAsked = refl
-
-command_length : (command : Command) → length (command_columns command) ≤ 58
-unfolding command_columns
-command_length command = simp length-append (omega (arith, command_kind_length command))
-
-pub columns_length : (message : Message) → length (columns message) ≤ 58
-columns_length (Stamp rec) = record_length rec
-columns_length (Remote command) = command_length command
+pub columns_length : (rec : Record) → length (columns rec) ≤ 58
+columns_length (Dated layout status weekday date time) = dated_length layout status weekday date time
+columns_length (TimeOnly layout time) = time_only_length layout time
 
 pub header_short : length header_row ≤ longest_row
 unfolding header_row
 header_short = lit≤ tt
 
-pub message_short : (start : ℕ) → start < 2 ^ 32 → (message : Message) → length (message_row start message) ≤ longest_row
-unfolding message_row
-message_short start counted message = simp length-append (omega (arith, count_length start counted, columns_length message))
+pub record_short : (start : ℕ) → start < 2 ^ 32 → (rec : Record) → length (record_row start rec) ≤ longest_row
+unfolding record_row
+record_short start counted rec = simp length-append (omega (arith, count_length start counted, columns_length rec))
 
 pub refused_short : (start number : ℕ) → start < 2 ^ 64 → number < 2 ^ 8 → length (refused_row start number) ≤ longest_row
 unfolding refused_row
@@ -120,11 +100,11 @@ pub stray_short : (stray : ℕ) → stray < 2 ^ 32 → length (stray_row stray) 
 unfolding stray_row
 stray_short stray counted = simp length-append (omega (arith, count_length stray counted))
 
--- a message that the rule refuses has no row
-pub rule_refuses : (message : Message) (row out : List ℕ) (n : ℕ) → n ≡ refusal_of message → (n ≡ 0 → ⊥)
-    → laid (unless (refusal_of message) row) out ≡ (refused n, out)
-rule_refuses message row out n e some = ap (λ o. laid o out) (sym (refuses row e some)) ∙ laid_refused n out
+-- a record that the rule refuses has no row
+pub rule_refuses : (rec : Record) (row out : List ℕ) (n : ℕ) → n ≡ refusal_of rec → (n ≡ 0 → ⊥)
+    → laid (unless (refusal_of rec) row) out ≡ (refused n, out)
+rule_refuses rec row out n e some = ap (λ o. laid o out) (sym (refuses row e some)) ∙ laid_refused n out
 
 -- and any other has its row
-pub rule_passes : (message : Message) (row : List ℕ) (n : ℕ) → n ≡ refusal_of message → n ≡ 0 → unless (refusal_of message) row ≡ done row
-rule_passes message row n e none = does row (sym e ∙ none)
+pub rule_passes : (rec : Record) (row : List ℕ) (n : ℕ) → n ≡ refusal_of rec → n ≡ 0 → unless (refusal_of rec) row ≡ done row
+rule_passes rec row n e none = does row (sym e ∙ none)

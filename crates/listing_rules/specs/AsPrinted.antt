@@ -1,5 +1,5 @@
 -- Document 01, "Listing, whole": its lines as text, and the one statement over them.
-use Rattle.std.specs.Prelude.{◌≡◌, true, false, List, [], ◌∷◌, ◌++◌, map, ℕ, length, pos, negsuc}
+use Rattle.std.specs.Prelude.{◌≡◌, true, false, List, [], ◌∷◌, ◌++◌, map, ℕ, length}
 use Prim.Native.String.{String}
 use Rattle.refusals.specs.Refusals.{Outcome, done, refused}
 use Rattle.calendar_rules.specs.Literals.{date, time}
@@ -10,15 +10,9 @@ use Rattle.record_rules.specs.declared.TimeLayout.TheVariants.{T6021, T5500, T50
 use Rattle.record_rules.specs.declared.Reception.TheVariants.{Invalid, Crystal, Radio, High}
 use Rattle.record_rules.specs.declared.Status.{Status}
 use Rattle.record_rules.specs.declared.Record.TheVariants.{Dated, TimeOnly}
+use Rattle.record_rules.specs.declared.RecordAnswer.{RecordAnswer}
+use Rattle.record_rules.specs.declared.RecordAnswer.TheVariants.{Good, Refused}
 use Rattle.record_rules.specs.Literals.{status_of}
-use Rattle.remote_rules.specs.declared.EastWest.TheVariants.{East}
-use Rattle.remote_rules.specs.declared.NorthSouth.TheVariants.{North}
-use Rattle.remote_rules.specs.declared.Command.{Command}
-use Rattle.remote_rules.specs.declared.Command.TheVariants.{Tim, TimAsked, Dif, DifAsked, Pos, PosAsked}
-use Rattle.remote_rules.specs.Literals.{moment, position}
-use Rattle.message_rules.specs.declared.Message.TheVariants.{Stamp, Remote}
-use Rattle.message_rules.specs.declared.MessageAnswer.{MessageAnswer}
-use Rattle.message_rules.specs.declared.MessageAnswer.TheVariants.{Good, Refused}
 use Rattle.ascii.specs.Ascii.{ascii}
 use Rattle.ascii.specs.Control.{lf}
 use Rattle.listing_rules.specs.Listing.{header_row, event_row, stray_row, longest_row}
@@ -26,7 +20,7 @@ use Rattle.listing_rules.specs.Listing.{header_row, event_row, stray_row, longes
 -- a line of the listing: the header, an event by its start and answer, the count of stray bytes
 pub data ListingLine : Type 0 where
   header : ListingLine
-  event : ℕ → MessageAnswer → ListingLine
+  event : ℕ → RecordAnswer → ListingLine
   stray : ℕ → ListingLine
 
 -- what stands in that line
@@ -40,21 +34,17 @@ abbrev pub line : String → List ℕ
 line text = ascii text ++ lf ∷ []
 
 -- 17 April 1996, 12:34:56: a Wednesday, 3
-abbrev pub april : DatedLayout → Status → ℕ → MessageAnswer
+abbrev pub april : DatedLayout → Status → ℕ → RecordAnswer
 april layout status weekday =
-    Good (Stamp (Dated layout status weekday (date 1996 4 17) (time 12 34 56)))
+    Good (Dated layout status weekday (date 1996 4 17) (time 12 34 56))
 
 -- 1 January 2000, 00:00:05: a Saturday, 6
-abbrev pub new_year : DatedLayout → Status → ℕ → MessageAnswer
+abbrev pub new_year : DatedLayout → Status → ℕ → RecordAnswer
 new_year layout status weekday =
-    Good (Stamp (Dated layout status weekday (date 2000 1 1) (time 0 0 5)))
+    Good (Dated layout status weekday (date 2000 1 1) (time 0 0 5))
 
-abbrev pub time_only : TimeLayout → MessageAnswer
-time_only layout = Good (Stamp (TimeOnly layout (time 12 34 56)))
-
--- a remote command
-abbrev pub told : Command → MessageAnswer
-told command = Good (Remote command)
+abbrev pub time_only : TimeLayout → RecordAnswer
+time_only layout = Good (TimeOnly layout (time 12 34 56))
 
 abbrev pub longest_line : String
 longest_line = "4294967295;6021;1996-04-17;12:34:56;3;crystal,daylight,utc,announced"
@@ -79,14 +69,6 @@ lines =
     -- the other words of a status; dates and times are padded, the start is not
     ∷ (event 100 (new_year L2000 (status_of Invalid false false true) 6), "100;2000;2000-01-01;00:00:05;6;invalid,standard,announced")
     ∷ (event 4294967295 (april L6021 (status_of Crystal true true true) 3), longest_line)
-    -- document 02, h: remote commands, with what they carry and asking; and one that no board knows
-    ∷ (event 200 (told (Tim 0x48 (moment (time 12 34 56) (date 1999 8 7) 6))), "200;TIM;-;-;-;-")
-    ∷ (event 230 (told (TimAsked 0x40)), "230;TIM;-;-;-;-")
-    ∷ (event 240 (told (Dif (negsuc 59))), "240;DIF;-;-;-;-")
-    ∷ (event 254 (told DifAsked), "254;DIF;-;-;-;-")
-    ∷ (event 262 (told (Pos (position East 7 33 34 North 53 12 21))), "262;POS;-;-;-;-")
-    ∷ (event 292 (told PosAsked), "292;POS;-;-;-;-")
-    ∷ (event 300 (Refused 22), "300;refused 22")
     ∷ []
 
 abbrev pub TheListingIsAsPrinted : Type 0
@@ -95,6 +77,3 @@ TheListingIsAsPrinted =
     × (length (line longest_line) ≡ longest_row)
     -- a record that no telegram could carry: the first on a Thursday
     × (made (event 1 (april L6021 (status_of High true false false) 4)) ≡ refused 8)
-    -- commands that none could: that Saturday on a Sunday, as the manual prints it, and 12 hours and a minute
-    × (made (event 1 (told (Tim 0x48 (moment (time 12 34 56) (date 1999 8 7) 7)))) ≡ refused 8)
-    × (made (event 1 (told (Dif (pos 721)))) ≡ refused 6)

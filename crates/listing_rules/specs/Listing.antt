@@ -1,4 +1,4 @@
--- Document 01, "Listing, whole", and document 02, h: the rows of the listing, as bytes.
+-- Document 01, "Listing, whole": the rows of the listing, as bytes.
 use Rattle.std.specs.Prelude.{Bool, cond, List, [], ◌∷◌, ◌++◌, ℕ}
 use Rattle.refusals.specs.Refusals.{Outcome, done, unless}
 use Rattle.calendar_rules.specs.declared.date.Date.{Date}
@@ -12,13 +12,9 @@ use Rattle.record_rules.specs.declared.Reception.TheVariants.{Invalid, Crystal, 
 use Rattle.record_rules.specs.declared.Status.{Status}
 use Rattle.record_rules.specs.declared.Record.{Record}
 use Rattle.record_rules.specs.declared.Record.TheVariants.{Dated, TimeOnly}
-use Rattle.remote_rules.specs.declared.Command.{Command}
-use Rattle.remote_rules.specs.declared.Command.TheVariants.{Tim, TimAsked, Dif, DifAsked, Pos, PosAsked}
-use Rattle.message_rules.specs.declared.Message.{Message}
-use Rattle.message_rules.specs.declared.Message.TheVariants.{Stamp, Remote}
-use Rattle.message_rules.specs.declared.MessageAnswer.{MessageAnswer}
-use Rattle.message_rules.specs.declared.MessageAnswer.TheVariants as answer
-use Rattle.message_rules.specs.Messages.{refusal_of}
+use Rattle.record_rules.specs.declared.RecordAnswer.{RecordAnswer}
+use Rattle.record_rules.specs.declared.RecordAnswer.TheVariants as answer
+use Rattle.record_rules.specs.Rule.{refusal_of}
 use Rattle.ascii.specs.Ascii.{ascii}
 use Rattle.listing_rules.specs.Decimals.{digit, two, four, decimal}
 
@@ -78,40 +74,22 @@ dated_columns layout status weekday date time =
 unfoldable pub time_only_columns : TimeLayout → Time → List ℕ
 time_only_columns layout time = time_kind layout ++ ascii ";-;" ++ time_column time ++ ascii ";-;-\n"
 
--- what a telegram's record says
-abbrev pub record_columns : Record → List ℕ
-record_columns (Dated layout status weekday date time) = dated_columns layout status weekday date time
-record_columns (TimeOnly layout time) = time_only_columns layout time
-
--- of a remote command, "their three letters as kind"
-abbrev pub command_kind : Command → List ℕ
-command_kind (Tim status moment) = ascii "TIM"
-command_kind (TimAsked status) = ascii "TIM"
-command_kind (Dif difference) = ascii "DIF"
-command_kind DifAsked = ascii "DIF"
-command_kind (Pos position) = ascii "POS"
-command_kind PosAsked = ascii "POS"
-
--- "and `-` in the four columns after"
-unfoldable pub command_columns : Command → List ℕ
-command_columns command = command_kind command ++ ascii ";-;-;-;-\n"
-
--- what a message says; in front of these columns stands where its telegram is
-abbrev pub columns : Message → List ℕ
-columns (Stamp rec) = record_columns rec
-columns (Remote command) = command_columns command
+-- what a telegram's record says; in front of these columns stands where the telegram is
+abbrev pub columns : Record → List ℕ
+columns (Dated layout status weekday date time) = dated_columns layout status weekday date time
+columns (TimeOnly layout time) = time_only_columns layout time
 
 -- "start;kind;date;time;weekday;status", as in "1;6021;1996-04-17;12:34:56;3;high,daylight"
-unfoldable pub message_row : ℕ → Message → List ℕ
-message_row start message = decimal start ++ ascii ";" ++ columns message
+unfoldable pub record_row : ℕ → Record → List ℕ
+record_row start rec = decimal start ++ ascii ";" ++ columns rec
 
 -- as in "19;refused 11": a refused row has two columns
 unfoldable pub refused_row : ℕ → ℕ → List ℕ
 refused_row start number = decimal start ++ ascii ";refused " ++ decimal number ++ ascii "\n"
 
 -- the row of an event. What no telegram could say has no row: 5 to 8
-abbrev pub event_row : ℕ → MessageAnswer → Outcome (List ℕ)
-event_row start (answer.Good message) = unless (refusal_of message) (message_row start message)
+abbrev pub event_row : ℕ → RecordAnswer → Outcome (List ℕ)
+event_row start (answer.Good rec) = unless (refusal_of rec) (record_row start rec)
 event_row start (answer.Refused number) = done (refused_row start number)
 
 -- as in "stray 1", the last line of the listing

@@ -1,8 +1,8 @@
 -- The rows of the two listings of a log, as bytes: its telegrams, and its blocks verified. Document 02 c), "block and slot (both from 0)".
 use Rattle.std.specs.Prelude.{List, ◌++◌, ℕ}
 use Rattle.refusals.specs.Refusals.{Outcome, unless}
-use Rattle.message_rules.specs.declared.Message.{Message}
-use Rattle.message_rules.specs.Messages.{refusal_of}
+use Rattle.record_rules.specs.declared.Record.{Record}
+use Rattle.record_rules.specs.Rule.{refusal_of}
 use Rattle.ascii.specs.Ascii.{ascii}
 use Rattle.listing_rules.specs.Decimals.{decimal}
 use Rattle.listing_rules.specs.Listing.{columns, refused_row}
@@ -12,12 +12,12 @@ unfoldable pub log_header : List ℕ
 log_header = ascii "block;slot;kind;date;time;weekday;status\n"
 
 -- as in "0;1;6021;1996-04-17;12:34:56;3;high,daylight": behind block and slot stand the columns of the line's listing
-unfoldable pub slot_row : ℕ → ℕ → Message → List ℕ
-slot_row block slot message = decimal block ++ ascii ";" ++ decimal slot ++ ascii ";" ++ columns message
+unfoldable pub slot_row : ℕ → ℕ → Record → List ℕ
+slot_row block slot rec = decimal block ++ ascii ";" ++ decimal slot ++ ascii ";" ++ columns rec
 
 -- the row of a telegram in a slot. What no telegram could say has no row: 5 to 8
-abbrev pub telegram_row : ℕ → ℕ → Message → Outcome (List ℕ)
-telegram_row block slot message = unless (refusal_of message) (slot_row block slot message)
+abbrev pub telegram_row : ℕ → ℕ → Record → Outcome (List ℕ)
+telegram_row block slot rec = unless (refusal_of rec) (slot_row block slot rec)
 
 -- as in "1;refused 20"
 abbrev pub block_row : ℕ → ℕ → List ℕ

@@ -11,7 +11,7 @@ use super::block::is_good;
 use super::check::check_of;
 use super::{BLOCK_SIZE, CHECK_PLACE, COUNT_PLACE, Place, SLOT_SIZE, SLOTS};
 pub use log_rules::add::AddAnswer;
-use message::MessageAnswer;
+use record::RecordAnswer;
 use refusals::{NO_FREE_SLOT, NOT_WHOLE_BLOCKS};
 
 // The place found so far, if any, with one block more: what was found before a used slot is a gap.
@@ -122,8 +122,8 @@ fn add_good(region: &mut [u8], telegram: &[u8]) -> AddAnswer
 pub fn add(region: &mut [u8], telegram: &[u8]) -> AddAnswer
     ensures { add_of region.old telegram.now ≡ (add_answer result, region.new) }
 {
-    match message::read::read(telegram) {
-        MessageAnswer::Refused(number) => AddAnswer::Refused(number),
-        MessageAnswer::Good(_) => add_good(region, telegram),
+    match telegram::read::read(telegram, true) {
+        RecordAnswer::Refused(number) => AddAnswer::Refused(number),
+        RecordAnswer::Good(_) => add_good(region, telegram),
     }
 }

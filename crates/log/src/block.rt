@@ -6,7 +6,7 @@ ghost use Rattle.log_rules.specs.Tests.{all_zero, slot_fits, slots_fit, check_fi
 
 use super::check::check_of;
 use super::{BLOCK_SIZE, CHECK_PLACE, COUNT_PLACE, SLOT_SIZE, SLOTS};
-use message::MessageAnswer;
+use record::RecordAnswer;
 
 fn is_zero(bytes: &[u8]) -> bool
     ensures { result ≡ all_zero bytes.now }
@@ -25,9 +25,9 @@ fn is_zero(bytes: &[u8]) -> bool
 fn reads_well(telegram: &[u8]) -> bool
     ensures { result ≡ reads_well telegram.now }
 {
-    match message::read::read(telegram) {
-        MessageAnswer::Good(_) => true,
-        MessageAnswer::Refused(_) => false,
+    match telegram::read::read(telegram, true) {
+        RecordAnswer::Good(_) => true,
+        RecordAnswer::Refused(_) => false,
     }
 }
 

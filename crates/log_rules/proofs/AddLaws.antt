@@ -5,9 +5,8 @@ use mathlib.Core.List.{List}
 use Prim.Native.Nat.{ℕ}
 use native.Mathlib.Omega.{arith}
 use Rattle.refusals.specs.Refusals.{Outcome, done, refused, after}
-use Rattle.trailer_rules.specs.declared.Order.TheVariants.{AsPrinted}
-use Rattle.message_rules.specs.declared.Message.{Message}
-use Rattle.message_rules.specs.Messages.{message_of}
+use Rattle.record_rules.specs.declared.Record.{Record}
+use Rattle.telegram_rules.specs.Reading.{read_of}
 use Rattle.log_rules.specs.declared.Place.{Place}
 use Rattle.log_rules.specs.Good.{is_done, reads_well}
 use Rattle.log_rules.specs.Add.{place_in, place_for, region_after, add_of}
@@ -19,7 +18,7 @@ unfolding add_of
 add_is region telegram e = ap (λ answer. (answer, region_after answer region telegram)) e
 
 -- a telegram that is refused is given none
-pub own_refusal : (region telegram : List ℕ) {number : ℕ} → message_of AsPrinted telegram ≡ refused number
+pub own_refusal : (region telegram : List ℕ) {number : ℕ} → read_of true telegram ≡ refused number
     → place_for region telegram ≡ refused number
 unfolding place_for
 own_refusal region telegram e = rw e
@@ -27,17 +26,17 @@ own_refusal region telegram e = rw e
 -- one that reads well is given the region's place, and no other is
 pub reads_place : (region telegram : List ℕ) → reads_well telegram ≡ true → place_for region telegram ≡ place_in region
 unfolding place_for reads_well
-reads_place region telegram = go (message_of AsPrinted telegram)
+reads_place region telegram = go (read_of true telegram)
   where
-    go : (o : Outcome Message) → is_done o ≡ true → after o (λ message. place_in region) ≡ place_in region
+    go : (o : Outcome Record) → is_done o ≡ true → after o (λ rec. place_in region) ≡ place_in region
     go (done rec) e = refl
     go (refused n) e = let z : ◌≡◌ {A = ℕ} 0 1 = cc in absurd (omega arith)
 
 pub given_place : (region telegram : List ℕ) (place : Place) → place_for region telegram ≡ done place
     → (reads_well telegram ≡ true) × (place_in region ≡ done place)
 unfolding place_for reads_well
-given_place region telegram place = go (message_of AsPrinted telegram)
+given_place region telegram place = go (read_of true telegram)
   where
-    go : (o : Outcome Message) → after o (λ message. place_in region) ≡ done place → (is_done o ≡ true) × (place_in region ≡ done place)
+    go : (o : Outcome Record) → after o (λ rec. place_in region) ≡ done place → (is_done o ≡ true) × (place_in region ≡ done place)
     go (done rec) e = (refl, e)
     go (refused n) e = let z : ◌≡◌ {A = ℕ} 0 1 = cc in absurd (omega arith)

@@ -13,37 +13,33 @@ use Rattle.refusals.proofs.Laws.{both}
 use Rattle.record_rules.specs.declared.Record.{Record}
 use Rattle.layouts_rules.specs.Layouts.{own_layout}
 use Rattle.layouts_rules.proofs.RowLaws.{row_length}
-use Rattle.trailer_rules.specs.declared.Order.{Order}
 use Rattle.trailer_rules.specs.declared.Order.TheVariants.{AsPrinted}
-use Rattle.telegram_rules.specs.Reading.{read_in}
+use Rattle.telegram_rules.specs.Reading.{read_of}
 use Rattle.telegram_rules.specs.Writing.{telegram_in as written}
-use Rattle.telegram_rules.proofs.WriteLaws.{length_body}
+use Rattle.telegram_rules.proofs.WriteLaws.{length_body, length_framed}
 use Rattle.telegram_rules.proofs.InOrder.{length_telegram, accepted}
-use Rattle.message_rules.specs.declared.Message.{Message}
-use Rattle.message_rules.specs.Messages.{message_of}
-use Rattle.message_rules.proofs.MessageLaws.{accepted_short}
 use Rattle.log_rules.specs.Check.{check_of, low_first}
 use Rattle.log_rules.specs.Block.{slots, slot_size, count_place, check_place, block_size, filled, slot_of, slots_of, body_of, sealed, block_of}
 use Rattle.log_rules.specs.Good.{count_in, telegram_in, telegrams_from, telegrams_of, is_done, reads_well, all_read_well, same, is_kept, is_good}
-use Rattle.log_rules.specs.LongestTelegram.{longest_accepted, NoneAcceptedIsLonger, ThatManyFitASlot}
+use Rattle.log_rules.specs.LongestTelegram.{NoneAcceptedIsLonger, ThatManyFitASlot}
 use Rattle.log_rules.proofs.PartLaws.{behind_first}
 use Rattle.log_rules.proofs.SameLaws.{same_true, same_refl, length_filled}
 
 -- an accepted telegram has at most 30 bytes, and so it fits a slot
-bare_is_short : (order : Order) (telegram : List ℕ) (rec : Record) → read_in order false telegram ≡ done rec → length telegram ≤ longest_accepted
-bare_is_short order telegram rec e =
+pub none_accepted_is_longer : NoneAcceptedIsLonger
+none_accepted_is_longer order true telegram rec e =
+    let size : length (written order true rec) ≡ length telegram = ap length (accepted order true telegram rec e).is_written in
+    omega (arith, size, length_telegram order true rec, length_framed rec, length_body rec, (row_length (own_layout rec)).1)
+none_accepted_is_longer order false telegram rec e =
     let size : length (written order false rec) ≡ length telegram = ap length (accepted order false telegram rec e).is_written in
     omega (arith, size, length_telegram order false rec, length_body rec, (row_length (own_layout rec)).1)
 
-pub none_accepted_is_longer : NoneAcceptedIsLonger
-none_accepted_is_longer = (accepted_short, bare_is_short)
-
 pub reads_short : (telegram : List ℕ) → reads_well telegram ≡ true → length telegram < slot_size
 unfolding reads_well
-reads_short telegram = go (message_of AsPrinted telegram) refl
+reads_short telegram = go (read_of true telegram) refl
   where
-    go : (o : Outcome Message) → message_of AsPrinted telegram ≡ o → is_done o ≡ true → length telegram < slot_size
-    go (done message) e reads = omega (arith, accepted_short AsPrinted telegram message e)
+    go : (o : Outcome Record) → read_of true telegram ≡ o → is_done o ≡ true → length telegram < slot_size
+    go (done rec) e reads = omega (arith, none_accepted_is_longer AsPrinted true telegram rec e)
     go (refused n) e reads = let z : ◌≡◌ {A = ℕ} 0 1 = cc in absurd (omega arith)
 
 -- telegrams that fit their slots

@@ -1,8 +1,7 @@
 -- Document 02 c), "an add goes to the first free slot of a good block behind the last slot used in any good block".
-use Rattle.std.specs.Prelude.{Bool, false, cond, ◌&&◌, ◌||◌, List, [], ◌∷◌, ◌++◌, ℕ, suc, ltb}
+use Rattle.std.specs.Prelude.{Bool, true, false, cond, ◌&&◌, ◌||◌, List, [], ◌∷◌, ◌++◌, ℕ, suc, ltb}
 use Rattle.refusals.specs.Refusals.{Outcome, done, refused, after}
-use Rattle.trailer_rules.specs.declared.Order.TheVariants.{AsPrinted}
-use Rattle.message_rules.specs.Messages.{message_of}
+use Rattle.telegram_rules.specs.Reading.{read_of}
 use Rattle.log_rules.specs.declared.Place.{Place}
 use Rattle.log_rules.specs.Block.{slots, block_of}
 use Rattle.log_rules.specs.Good.{count_in, telegrams_of, is_good}
@@ -35,7 +34,7 @@ place_in region = after (blocks_of region) (free_behind_used 0)
 
 -- "an added telegram's own" refusal comes first
 unfoldable pub place_for : List ℕ → List ℕ → Outcome Place
-place_for region telegram = after (message_of AsPrinted telegram) (λ message. place_in region)
+place_for region telegram = after (read_of true telegram) (λ rec. place_in region)
 
 -- the block with one telegram more
 abbrev pub entered : List ℕ → List ℕ → List ℕ

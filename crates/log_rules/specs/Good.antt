@@ -2,9 +2,8 @@
 -- these rules is bad too".
 use Rattle.std.specs.Prelude.{Bool, true, false, ◌&&◌, List, [], ◌∷◌, ℕ, zero, suc, eqb, leb, length, take, drop, get_or}
 use Rattle.refusals.specs.Refusals.{Outcome, done, refused}
-use Rattle.trailer_rules.specs.declared.Order.TheVariants.{AsPrinted}
-use Rattle.message_rules.specs.declared.Message.{Message}
-use Rattle.message_rules.specs.Messages.{message_of}
+use Rattle.record_rules.specs.declared.Record.{Record}
+use Rattle.telegram_rules.specs.Reading.{read_of}
 use Rattle.log_rules.specs.Block.{slots, slot_size, count_place, block_of}
 
 -- how many slots a block says it uses
@@ -24,14 +23,13 @@ telegrams_from (suc n) bytes = telegram_in (take slot_size bytes) ∷ telegrams_
 unfoldable pub telegrams_of : List ℕ → List (List ℕ)
 telegrams_of block = telegrams_from (count_in block) block
 
--- "accepted telegrams .. with control characters", remote commands among them: those "may be logged" (document 02, h). "The log takes
--- as-printed order only" (f)
-abbrev pub is_done : Outcome Message → Bool
-is_done (done message) = true
+-- "accepted telegrams .. with control characters"
+abbrev pub is_done : Outcome Record → Bool
+is_done (done rec) = true
 is_done (refused number) = false
 
 unfoldable pub reads_well : List ℕ → Bool
-reads_well telegram = is_done (message_of AsPrinted telegram)
+reads_well telegram = is_done (read_of true telegram)
 
 abbrev pub all_read_well : List (List ℕ) → Bool
 all_read_well [] = true

@@ -1,22 +1,20 @@
 -- Document 02, g: "none that will be accepted is longer than 30, so log blocks stay as they are".
-use Rattle.std.specs.Prelude.{false, List, ◌≡◌, ℕ, ◌≤◌, length}
+use Rattle.std.specs.Prelude.{Bool, List, ◌≡◌, ℕ, ◌≤◌, length}
 use Rattle.refusals.specs.Refusals.{done}
 use Rattle.record_rules.specs.declared.Record.{Record}
 use Rattle.trailer_rules.specs.declared.Order.{Order}
 use Rattle.telegram_rules.specs.Reading.{read_in}
-use Rattle.message_rules.specs.declared.Message.{Message}
-use Rattle.message_rules.specs.Messages.{message_of}
 use Rattle.log_rules.specs.Block.{slot_size, slot_of}
 use Rattle.log_rules.specs.Good.{telegram_in}
 
--- "none that will be accepted is longer than 30", with control characters, remote commands too, or without, in either order
+-- "none that will be accepted is longer than 30", with control characters or without, in either order
 abbrev pub longest_accepted : ℕ
 longest_accepted = 30
 
 abbrev pub NoneAcceptedIsLonger : Type 0
 NoneAcceptedIsLonger =
-    ((order : Order) (telegram : List ℕ) (message : Message) → message_of order telegram ≡ done message → length telegram ≤ longest_accepted)
-    × ((order : Order) (telegram : List ℕ) (rec : Record) → read_in order false telegram ≡ done rec → length telegram ≤ longest_accepted)
+    (order : Order) (control : Bool) (telegram : List ℕ) (rec : Record) → read_in order control telegram ≡ done rec
+    → length telegram ≤ longest_accepted
 
 -- "so log blocks stay as they are": so many bytes and their length byte fill no more than a slot, and are found in it again
 abbrev pub ThatManyFitASlot : Type 0

@@ -246,23 +246,3 @@ every_at_law holds (q ∷ row) [] p e k r b = absurd (omega arith)
 every_at_law holds (q ∷ row) (byte ∷ bytes) p e zero r b = (every_parts q row byte bytes holds e).0
 every_at_law holds (q ∷ row) (byte ∷ bytes) p e (suc k) r b =
     every_at_law holds row bytes p (every_parts q row byte bytes holds e).1 k (omega arith) (omega arith)
-
--- Two lists of digits that agree in the slots of a row make the same bytes.
-abbrev pub same_at : List ℕ → List ℕ → Place → Type 0
-same_at a b (fixed character) = Unit {0}
-same_at a b (decimal slot) = get_or a slot 0 ≡ get_or b slot 0
-same_at a b (code slot) = get_or a slot 0 ≡ get_or b slot 0
-
-abbrev pub AllSame : List ℕ → List ℕ → List Place → Type 0
-AllSame a b [] = Unit {0}
-AllSame a b (p ∷ row) = same_at a b p × AllSame a b row
-
-same_byte : (a b : List ℕ) (p : Place) → same_at a b p → byte_at a p ≡ byte_at b p
-same_byte a b (fixed character) e = refl
-same_byte a b (decimal slot) e = ap (λ n. code_character (n % 16)) e
-same_byte a b (code slot) e = ap (λ n. code_character (n % 16)) e
-
-pub same_bytes : (row : List Place) (a b : List ℕ) → AllSame a b row → render row a ≡ render row b
-unfolding render
-same_bytes [] a b e = refl
-same_bytes (p ∷ row) a b e = ap₂ ◌∷◌ (same_byte a b p e.0) (same_bytes row a b e.1)

@@ -27,25 +27,15 @@ abbrev pub distinct : List Place → Bool
 distinct [] = true
 distinct (p ∷ row) = apart p row && distinct row
 
--- a slot is one of the slots
+-- a slot is one of the slots; no fixed character is STX or ETX
 abbrev pub sound_place : Place → Bool
-sound_place (fixed character) = true
+sound_place (fixed character) = not (eqb character 2) && not (eqb character 3)
 sound_place (decimal slot) = ltb slot slots
 sound_place (code slot) = ltb slot slots
 
 abbrev pub sound : List Place → Bool
 sound [] = true
 sound (p ∷ row) = sound_place p && sound row
-
--- no fixed character is STX or ETX
-abbrev pub plain_place : Place → Bool
-plain_place (fixed character) = not (eqb character 2) && not (eqb character 3)
-plain_place (decimal slot) = true
-plain_place (code slot) = true
-
-abbrev pub plain : List Place → Bool
-plain [] = true
-plain (p ∷ row) = plain_place p && plain row
 
 -- each place has a digit that it can show: a decimal up to 9, a code up to 15
 abbrev pub shown : List ℕ → Place → Type 0

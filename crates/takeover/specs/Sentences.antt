@@ -1,7 +1,7 @@
 -- Document 02, g: what is taken over, and how the reader that it was kept by would have gone on. That reader is the one of document 01,
 -- "The line, byte by byte", with the old bound: the definitions of `line` at `kept_places`.
 use Rattle.std.specs.Prelude.{Bool, true, false, cond, not, ◌&&◌, List, [], ◌∷◌, ◌≡◌, ℕ, ◌<◌, eqb, take}
-use Rattle.message_rules.specs.declared.MessageAnswer.TheVariants as answer
+use Rattle.record_rules.specs.declared.RecordAnswer.TheVariants as answer
 use Rattle.line.specs.declared.Reader.{Reader}
 use Rattle.line_rules.specs.declared.Heard.{Heard}
 use Rattle.line_rules.specs.declared.Heard.TheVariants.{Nothing, Event, Refused}

@@ -44,17 +44,11 @@
 //   l        reads the bytes as a reply to a Leitch generator
 //   e        writes a reply: the buffer's length, the reply
 //   q        reads the bytes as a request
-//   c        reads the bytes as a remote command
-//   v        writes a remote command: the buffer's length, the command
-//   j        the refusal of a remote command
-//   m        reads the bytes as one message, a telegram or a remote command, in a named order: the order, the bytes
 mod boards;
-mod commands;
 mod dates;
 mod digits;
 mod inputs;
 mod lines;
-mod messages;
 mod outputs;
 mod records;
 mod replies;
@@ -112,10 +106,6 @@ fn run(letter: u8, bytes: &[u8]) {
         b'l' => replies::reads(bytes),
         b'e' => replies::writes(bytes),
         b'q' => request_letters::reads(bytes),
-        b'c' => commands::reads(bytes),
-        b'v' => commands::writes(bytes),
-        b'j' => commands::refusal(bytes),
-        b'm' => messages::reads(bytes),
         _ => {}
     }
     outputs::end_line();

@@ -1,5 +1,4 @@
 // How an outcome is printed: numbers, each with a space behind it. A refusal is its number, and anything else is 0 and its values.
-use super::messages;
 use calendar::date::Date;
 use calendar::time::Time;
 use layouts::Layout;
@@ -140,7 +139,7 @@ pub(crate) fn print_heard(heard: Heard) {
             print(1);
             print(start as u64);
             print(length as u64);
-            messages::print_answer(answer);
+            print_answer(answer);
         }
         Heard::Refused(number) => {
             print(2);

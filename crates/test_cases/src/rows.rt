@@ -1,7 +1,7 @@
 // Cases of the rows of the listing. A row is written into the first bytes of a buffer, which is printed whole.
-use super::{commands, inputs, outputs};
+use super::{inputs, outputs};
 use listing::RowAnswer;
-use message::{Message, MessageAnswer};
+use record::RecordAnswer;
 
 // What stands for an answer where a case asks for a longer buffer than there is.
 const NO_SUCH_ROOM: RowAnswer = RowAnswer::Refused(255);
@@ -31,17 +31,16 @@ pub(crate) fn header(bytes: &[u8]) {
     outputs::print_bytes(&out);
 }
 
-// A refusal's number, 0 and a record, or 255 and a command.
-fn outcome(bytes: &[u8]) -> MessageAnswer {
-    let behind = inputs::behind(bytes, 1);
-    match inputs::byte(bytes, 0) {
-        0 => MessageAnswer::Good(Message::Stamp(inputs::rec(behind))),
-        255 => MessageAnswer::Good(Message::Remote(commands::command(behind))),
-        number => MessageAnswer::Refused(number),
+// A refusal's number, or 0 and a record.
+fn outcome(bytes: &[u8]) -> RecordAnswer {
+    let number = inputs::byte(bytes, 0);
+    if number != 0 {
+        return RecordAnswer::Refused(number);
     }
+    RecordAnswer::Good(inputs::rec(inputs::behind(bytes, 1)))
 }
 
-fn row_in(out: &mut [u8], room: usize, start: u32, answer: MessageAnswer) -> RowAnswer {
+fn row_in(out: &mut [u8], room: usize, start: u32, answer: RecordAnswer) -> RowAnswer {
     if out.len() < room {
         return NO_SUCH_ROOM;
     }

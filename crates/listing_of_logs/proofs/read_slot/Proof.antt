@@ -1,8 +1,8 @@
 -- `listing_of_logs::read_slot` meets its contract.
 use mathlib.Core.Path.{ap, ◌∙◌}
 use native.Mathlib.Omega.{arith}
-use Rattle.trailer_rules.specs.declared.Order.TheVariants.{AsPrinted}
-use Rattle.message_rules.specs.Messages.{message_of}
+use mathlib.Core.Bool.{true}
+use Rattle.telegram_rules.specs.Reading.{read_of}
 use Rattle.listing_of_logs.proofs.RowLaws.{slot_part}
 use borrow.Author.Rules.{rules}
 use Rattle.listing_of_logs.proofs.read_slot.Statement.{statement}
@@ -35,7 +35,7 @@ read_requires c κs = search rules
 returns : tie.Need-returns
 returns c =
     let slot = c.before.before.before.before.before.args.slot.now in
-    c.read.ensures ∙ ap (message_of AsPrinted) (slot_part slot _ c.before.before.before.before.before.pre c.before.before.smaller.ensures)
+    c.read.ensures ∙ ap (read_of true) (slot_part slot _ c.before.before.before.before.before.pre c.before.before.smaller.ensures)
 
 pub read_slot_spec : {M : Type 1} → statement M
 read_slot_spec =

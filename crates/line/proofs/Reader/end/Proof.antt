@@ -1,7 +1,7 @@
 use Rattle.std.proofs.Common.{◌≡◌, length, sym, ◌∙◌, arith, rules}
 use borrow.Author.Tests.{not-true, not-false}
 use lib.ListN.{length-map}
-use Rattle.message_rules.specs.declared.MessageAnswer.TheVariants as answer
+use Rattle.record_rules.specs.declared.RecordAnswer.TheVariants as answer
 use Rattle.line_rules.specs.declared.Heard.TheVariants.{Nothing, Event}
 use Rattle.line_rules.specs.Line.{places}
 use Rattle.line.proofs.ReaderLaws.{well, end_refused, end_outside, end_inside}

@@ -1,6 +1,6 @@
 -- `line::judge::judge` meets its contract. The loop's invariant: the bytes copied so far.
 use Rattle.std.proofs.Common.{◌≡◌, ◌+◌, ◌-◌, ◌≤◌, length, get_or, take, refl, ap, ◌∙◌, subst, arith, length-set, rules}
-use Rattle.message_rules.specs.Messages.{message_of}
+use Rattle.telegram_rules.specs.Reading.{read_in}
 use Rattle.ascii.specs.Control.{etx}
 use Rattle.line_rules.specs.Line.{places}
 use Rattle.lent_buffer.proofs.CopyLaws.{copy_step}
@@ -73,7 +73,7 @@ returns c =
     let all : l.at ≡ places = omega (arith, l.invariant.0, c.before.before.before.loop-test) in
     let copied = subst (λ n. take n l.whole ≡ take n held) all l.invariant.2 in
     c.read-in.ensures
-    ∙ ap (message_of _)
+    ∙ ap (read_in _ _)
     (closed held l.whole start.len capped.result places (capped.result + 1 - 0) etx
     (omega arith) (omega (arith, capped.ensures)) (omega (arith, capped.ensures)) (omega (arith, capped.ensures, l.invariant.1)) copied)
 

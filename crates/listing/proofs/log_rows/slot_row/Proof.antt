@@ -15,7 +15,7 @@ refusal_requires : tie.Need-refusal-requires
 refusal_requires c κs = search rules
 
 returns : tie.Need-returns
-returns c = let a = c.before.before.before.args in rule_refuses a.message (slot_row a.block a.slot a.message) a.out.now _ c.before.refusal.ensures c.if1.true
+returns c = let a = c.before.before.before.args in rule_refuses a.rec (slot_row a.block a.slot a.rec) a.out.now _ c.before.refusal.ensures c.if1.true
 
 decimal_requires : tie.Need-decimal-requires
 decimal_requires c κs = search rules
@@ -36,13 +36,13 @@ abbrev entry : tie.After-columns → tie.Start
 entry c = c.before.before.before.before.before.before.before.before.before.before.before.before.before
 
 -- the text, once all of it stands
-whole : (c : tie.After-columns) → Holds (text_of c.columns.new.0 c.columns.result) (slot_row (entry c).args.block (entry c).args.slot (entry c).args.message)
+whole : (c : tie.After-columns) → Holds (text_of c.columns.new.0 c.columns.result) (slot_row (entry c).args.block (entry c).args.slot (entry c).args.rec)
 unfolding slot_row
 whole c =
     let a = (entry c).args in
     let block = behind _ _ _ c.before.before.before.before.before.before.before.before.decimal.ensures c.before.before.before.before.before.before.push.ensures in
     let slot = behind _ _ _ (behind _ _ _ block c.before.before.before.before.decimal2.ensures) c.before.before.push2.ensures in
-    holds _ _ (behind _ _ _ slot c.columns.ensures) (omega (arith, slot_short a.block a.slot (omega arith) (omega arith) a.message))
+    holds _ _ (behind _ _ _ slot c.columns.ensures) (omega (arith, slot_short a.block a.slot (omega arith) (omega arith) a.rec))
 
 slice_aggregate_lay : tie.Need-slice-aggregate-lay
 slice_aggregate_lay c = sym (whole c.before).room
@@ -58,7 +58,7 @@ returns_2 c =
     let made = c.before.before.before.before.before in
     let a = (entry made).args in
     let tested = c.before.before.before.before.before.before.before.before.before.before.before.before.before.before.before in
-    let passes = rule_passes a.message (slot_row a.block a.slot a.message) _ tested.before.refusal.ensures tested.if1.false in
+    let passes = rule_passes a.rec (slot_row a.block a.slot a.rec) _ tested.before.refusal.ensures tested.if1.false in
     ap (λ o. laid o a.out.now) passes ∙ row_laid (whole made) a.out.now c.before.before.lay.ensures
 
 pub slot_row_spec : {M : Type 1} → statement M

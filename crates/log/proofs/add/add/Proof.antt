@@ -2,7 +2,7 @@
 use mathlib.Core.Path.{◌≡◌, ap, ap₂, sym, ◌∙◌}
 use mathlib.Core.Bool.{true}
 use borrow.Author.Rules.{rules}
-use Rattle.message_rules.specs.Messages.{message_answer}
+use Rattle.record_rules.specs.Answers.{record_answer}
 use Rattle.log_rules.specs.Good.{is_done, reads_well}
 use Rattle.log_rules.proofs.AddLaws.{add_is, own_refusal, reads_place}
 use Rattle.log.proofs.add.add.Statement.{statement}
@@ -20,7 +20,7 @@ enum_told c = search rules
 -- what was read well
 reads : (c : tie.After-enum-told) → reads_well c.before.before.before.before.before.args.telegram.now ≡ true
 unfolding reads_well
-reads c = sym (ap is_done c.before.before.read.ensures) ∙ ap (λ r. is_done (message_answer r)) c.enum_told.given.1
+reads c = sym (ap is_done c.before.before.read.ensures) ∙ ap (λ r. is_done (record_answer r)) c.enum_told.given.1
 
 add_good_requires : tie.Need-add-good-requires
 add_good_requires c κs = reads c.before
@@ -28,7 +28,7 @@ add_good_requires c κs = reads c.before
 returns : tie.Need-returns
 returns c =
     let a = c.before.before.before.before.before.before.args in
-    let refusal = sym c.before.before.before.read.ensures ∙ ap message_answer c.before.number.given.1 in
+    let refusal = sym c.before.before.before.read.ensures ∙ ap record_answer c.before.number.given.1 in
     add_is a.region.now a.telegram.now (own_refusal a.region.now a.telegram.now refusal)
 
 same_length : tie.Need-same-length

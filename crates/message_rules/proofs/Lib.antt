@@ -1,4 +1,0 @@
-pub mod StampLaws
-pub mod PlainLaws
-pub mod NumberLaws
-pub mod MessageLaws

@@ -1,2 +1,0 @@
-pub mod MinutesLaws
-mod SignedLaws
