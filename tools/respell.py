@@ -14,6 +14,7 @@ import sys
 NAME = re.compile(r"(?<![\w'₀-₉-])[^\W\d][\w'₀-₉-]*")
 TEXT = re.compile(r'"[^"]*"')
 CAMEL = re.compile(r"[a-z][a-z0-9_]*[A-Z]")
+ALIAS = re.compile(r"\s*(?:pub )?use (Rattle\.[\w.]+) as ([\w-]+)\s*$")
 USE = re.compile(r"\s*(?:pub )?(?:ghost )?use ([\w.]+)\.\{(.*)\}")
 
 # A law that is named as the definition that it is about: `_law` behind it keeps the two apart.
@@ -59,6 +60,9 @@ def file_map(text, crates, fields, rust):
     """The names of one file that are respelled, and those of its names that a library has."""
     libraries, own = set(), set()
     for line in text.split("\n"):
+        m = ALIAS.match(line)
+        if m and is_own(m.group(1), crates):
+            own.add(m.group(2) + ".")
         m = USE.match(line)
         if m:
             names = [n.strip().split(" as ")[-1].strip() for n in m.group(2).split(",")]
@@ -66,7 +70,7 @@ def file_map(text, crates, fields, rust):
     return libraries, own
 
 
-def turn_line(line, libraries, only, fields, comment):
+def turn_line(line, libraries, only, fields, modules):
     texts = [(m.start(), m.end()) for m in TEXT.finditer(line)]
 
     def one(m):
@@ -76,7 +80,7 @@ def turn_line(line, libraries, only, fields, comment):
         if not turned(name, only is not None):
             return name
         before = line[: m.start()]
-        if before.endswith(".") and name not in fields and not USE.match(line):
+        if before.endswith(".") and name not in fields and not USE.match(line) and not any(re.search(rf"(?<![\w.-]){re.escape(m)}$", before) for m in modules):
             return name
         if before.endswith(".") and USE.match(line):
             return name
@@ -100,7 +104,7 @@ def turn_antt(text, crates, fields):
             out.append(head + NAME.sub(lambda n: respelled(n.group(0)) if turned(n.group(0), False) else n.group(0), names))
             continue
         code, mark, said = line.partition("--") if re.match(r"\s*--", line) else (line, "", "")
-        code = turn_line(code, libraries, None, fields, False)
+        code = turn_line(code, libraries, None, fields, {n for n in own if n.endswith(".")})
         quoted = [(n.start(), n.end()) for n in TEXT.finditer(said)]
         said = NAME.sub(lambda n: respelled(n.group(0)) if CAMEL.match(n.group(0)) and n.group(0) not in libraries and not any(a < n.start() < b for a, b in quoted) else n.group(0), said)
         out.append(code + mark + said)
@@ -110,7 +114,7 @@ def turn_antt(text, crates, fields):
 def turn_rust(text, crates, fields):
     libraries, own = file_map(text, crates, fields, True)
     own |= fields
-    return "\n".join(turn_line(line, libraries, own, fields, False) for line in text.split("\n"))
+    return "\n".join(turn_line(line, libraries, own, fields, set()) for line in text.split("\n"))
 
 
 # What port.py does to the text of a file, as far as the edits' lines have it.
@@ -142,7 +146,7 @@ def turn_edit(path, root, crates, fields):
                     head, names = body[: body.index("{")], body[body.index("{"):]
                     body = head + NAME.sub(lambda n: respelled(n.group(0)) if turned(n.group(0), rust) else n.group(0), names)
                 else:
-                    body = turn_line(body, libraries, (own | fields | everywhere) if rust else None, fields, False)
+                    body = turn_line(body, libraries, (own | fields | everywhere) if rust else None, fields, {n for n in own if n.endswith(".")})
             line = m.group(1) + body
         out.append(line)
     return "\n".join(out)

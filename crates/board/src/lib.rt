@@ -1,5 +1,7 @@
 // The parameter byte of a clock board: eight switches that say how the board sends on its serial line.
 // What a switch means is the board's own matter, in a module for each board.
+#![tactic(auto)]
+
 pub mod of_6036;
 pub mod of_6038;
 

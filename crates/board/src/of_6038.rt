@@ -12,7 +12,7 @@ pub use board_rules::of_6038::{Parameter, ParameterAnswer};
 use refusals::NOT_OFFERED;
 
 // The parity of a byte, or the number that refuses it.
-#[derive(Drop)]
+#[derive(Clone, Copy)]
 enum ParityAnswer {
     Found(Parity),
     Refused(u8),

@@ -1,9 +1,11 @@
 // The parameter byte of a clock board: eight switches that say how the board sends on its serial line. What they mean: no code.
+#![tactic(auto)]
+
 pub mod of_6036;
 pub mod of_6038;
 
 // The parity bit of a character.
-#[derive(Drop)]
+#[derive(Clone, Copy)]
 pub enum Parity {
     None,
     Even,
@@ -11,7 +13,7 @@ pub enum Parity {
 }
 
 // The byte of a setting, or the number that refuses it.
-#[derive(Drop)]
+#[derive(Clone, Copy)]
 pub enum ByteAnswer {
     Byte(u8),
     Refused(u8),

@@ -3,7 +3,7 @@ use super::Parity;
 
 // In which form the board sends, in plain numbers as on the 6036. Whether in UTC this byte does not say: another one of the board's
 // does.
-#[derive(Drop)]
+#[derive(Clone, Copy)]
 pub struct Parameter {
     pub data_bits: u8,
     pub parity: Parity,
@@ -12,7 +12,7 @@ pub struct Parameter {
 }
 
 // The setting of a byte, or the number that refuses it.
-#[derive(Drop)]
+#[derive(Clone, Copy)]
 pub enum ParameterAnswer {
     Setting(Parameter),
     Refused(u8),

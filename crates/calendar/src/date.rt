@@ -87,7 +87,7 @@ pub fn day_number(date: Date) -> DayAnswer
 }
 
 // A month by its place in the table, with its first day's number.
-#[derive(Drop)]
+#[derive(Clone, Copy)]
 struct Month {
     index: u32,
     first: u32,

@@ -1,7 +1,7 @@
 // Dates, and the answers about them.
 
 // A date as a telegram carries it; whether the calendar has it is asked by each function.
-#[derive(Drop)]
+#[derive(Clone, Copy)]
 pub struct Date {
     pub year: u16,
     pub month: u8,
@@ -9,21 +9,21 @@ pub struct Date {
 }
 
 // How many days, or the number that refuses the month.
-#[derive(Drop)]
+#[derive(Clone, Copy)]
 pub enum DaysAnswer {
     Days(u8),
     Refused(u8),
 }
 
 // A day number, or the number that refuses the date.
-#[derive(Drop)]
+#[derive(Clone, Copy)]
 pub enum DayAnswer {
     Day(u32),
     Refused(u8),
 }
 
 // A date, or the number that refuses what was asked.
-#[derive(Drop)]
+#[derive(Clone, Copy)]
 pub enum DateAnswer {
     Found(Date),
     Refused(u8),

@@ -1,7 +1,7 @@
 // The time of day, and the answers about it.
 
 // A time as a telegram carries it; whether the day has it is asked by each function.
-#[derive(Drop)]
+#[derive(Clone, Copy)]
 pub struct Time {
     pub hour: u8,
     pub minute: u8,
@@ -9,14 +9,14 @@ pub struct Time {
 }
 
 // The second of the day, or the number that refuses the time.
-#[derive(Drop)]
+#[derive(Clone, Copy)]
 pub enum SecondAnswer {
     Second(u32),
     Refused(u8),
 }
 
 // The next second, and whether it belongs to the same day or to the next.
-#[derive(Drop)]
+#[derive(Clone, Copy)]
 pub enum NextSecondAnswer {
     SameDay(Time),
     NextDay(Time),

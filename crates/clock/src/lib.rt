@@ -1,4 +1,6 @@
 // The station clock: a record that is stepped by one second, by value or where it stands.
+#![tactic(auto)]
+
 ghost use Rattle.std.specs.Prelude.{◌≡◌};
 ghost use Rattle.clock.specs.Stepping.{step_of};
 
@@ -6,19 +8,19 @@ use record::next::next_second;
 use record::{Record, RecordAnswer};
 use refusals::NO_DATE;
 
-#[derive(Drop)]
+#[derive(Clone, Copy)]
 pub struct Clock {
     pub rec: Record,
 }
 
-#[derive(Drop)]
+#[derive(Clone, Copy)]
 pub enum StepAnswer {
     Stepped,
     Refused(u8),
 }
 
 // The clock after a step, and what the step tells.
-#[derive(Drop)]
+#[derive(Clone, Copy)]
 pub struct Stepped {
     pub clock: Clock,
     pub answer: StepAnswer,

@@ -1,10 +1,12 @@
 // The words of the lister's command line: what they ask for. They are handed in one by one, as the system hands them out.
+#![tactic(auto)]
+
 ghost use Rattle.std.specs.Prelude.{◌≡◌};
 ghost use Rattle.command_line.specs.Words.{is_same, is_option, listings, other_word, word_in, word_of};
 ghost use Rattle.command_line.specs.Asking.{no_word, with_listing, with_name, with_meaning, with_word};
 
 // What is to be listed: a captured line, one whose trailers are exchanged, the telegrams of a log, or its blocks.
-#[derive(Drop)]
+#[derive(Clone, Copy)]
 pub enum Wanted {
     Line,
     Exchanged,
@@ -13,7 +15,7 @@ pub enum Wanted {
 }
 
 // Where it stands: on standard input, or in the file that the word at a place names.
-#[derive(Drop)]
+#[derive(Clone, Copy)]
 pub enum Source {
     Input,
     File(usize),
@@ -21,7 +23,7 @@ pub enum Source {
 
 // What is wrong with the words: the one at a place is no option; one is too long for the name of a file; or there is a second one that says
 // what is listed, or that names a file.
-#[derive(Drop)]
+#[derive(Clone, Copy)]
 pub enum Fault {
     NoSuchOption(usize),
     LongName,
@@ -30,7 +32,7 @@ pub enum Fault {
 }
 
 // What the words ask for. Where one of them is wrong, it is the first of these.
-#[derive(Drop)]
+#[derive(Clone, Copy)]
 pub enum Asked {
     Listing(Wanted, Source),
     Help,
@@ -39,7 +41,7 @@ pub enum Asked {
 }
 
 // What one word says.
-#[derive(Drop)]
+#[derive(Clone, Copy)]
 enum Word {
     Help,
     Version,

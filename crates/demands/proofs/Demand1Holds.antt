@@ -214,21 +214,21 @@ unfolding byte_for
 demand_1_parameter setting = one_rule 16 (not (offered setting)) (byte_of (switches_for setting))
 
 -- the four positions of switches 3 and 4
-listed : (byte : ℕ) → of_6038.parameterIn byte by_first 16 given_when is_off_on byte ∷ []
-unfolding of_6038.parameterIn unless
+listed : (byte : ℕ) → of_6038.parameter_in byte by_first 16 given_when is_off_on byte ∷ []
+unfolding of_6038.parameter_in unless
 listed byte = go (switch 3 byte) (switch 4 byte)
   where
-    go : (third fourth : Bool) → after (of_6038.parityAt third fourth) (λ parity. done (of_6038.settingWith byte parity)) by_first 16 given_when (not third && fourth) ∷ []
+    go : (third fourth : Bool) → after (of_6038.parity_at third fourth) (λ parity. done (of_6038.setting_with byte parity)) by_first 16 given_when (not third && fourth) ∷ []
     go true true = refl
     go true false = refl
     go false true = refl
     go false false = refl
 
 pub demand_1_parameter_of_a_6038 : TheParameterByteOfA6038Refuses
-unfolding of_6038.byteFor
+unfolding of_6038.byte_for
 demand_1_parameter_of_a_6038 byte setting = (
-  by_lowest (of_6038.parameterIn byte) (16 given_when is_off_on byte ∷ []) refl (listed byte),
-  one_rule 16 (not (of_6038.offered setting)) (byte_of (of_6038.switchesFor setting)),
+  by_lowest (of_6038.parameter_in byte) (16 given_when is_off_on byte ∷ []) refl (listed byte),
+  one_rule 16 (not (of_6038.offered setting)) (byte_of (of_6038.switches_for setting)),
 )
 
 pub demand_1_calendar : TheCalendarRefuses

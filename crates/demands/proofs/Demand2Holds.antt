@@ -113,7 +113,7 @@ demand_2_one_later_in_a_day layout time none =
     (time_after (up_to59 time), rw none (does _ refl), later (is_sixty time) refl (is_last_second (up_to59 time)) next)
   where
     g : times.Good (up_to59 time)
-    g = times.good-range (up_to59 time) (alone_up_to_59 time none)
+    g = times.good_range (up_to59 time) (alone_up_to_59 time none)
 
     next : Follows (up_to59 time) (time_after (up_to59 time)) (is_last_second (up_to59 time))
     next = time_after_law (up_to59 time) g

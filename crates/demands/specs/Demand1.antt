@@ -134,8 +134,8 @@ TheParameterByteRefuses = (setting : Parameter) → byte_for setting refused_by 
 abbrev pub TheParameterByteOfA6038Refuses : Type 0
 TheParameterByteOfA6038Refuses =
     (byte : ℕ) (setting : Parameter6038)
-    → (of_6038.parameterIn byte refused_by 16 given_when is_off_on byte ∷ [])
-    × (of_6038.byteFor setting refused_by 16 given_when not (of_6038.offered setting) ∷ [])
+    → (of_6038.parameter_in byte refused_by 16 given_when is_off_on byte ∷ [])
+    × (of_6038.byte_for setting refused_by 16 given_when not (of_6038.offered setting) ∷ [])
 
 -- the calendar: a date's day number 6, 7; the date of a day number 12; the day after 6, 7, 12; the length of a month 6; the second of
 -- the day 6; the next second of the day 6

@@ -1,5 +1,7 @@
 // Lists a captured line, or a log: a file that is named, or standard input, to its end, in pieces as they come. The listing goes to
 // standard output; what went wrong is told on standard error.
+#![tactic(auto)]
+
 mod help;
 mod logs;
 mod reads;

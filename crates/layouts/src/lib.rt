@@ -1,4 +1,6 @@
 // The seven layouts: their rows of places, how a layout is found, and what its digits mean.
+#![tactic(auto)]
+
 pub mod coding;
 pub mod rows;
 

@@ -71,7 +71,7 @@ record_back (Dated layout status weekday date time) none =
       day = pair_back date.day (omega (arith, d.to_day)) i;
     })
     (time_back time t i)
-record_back (TimeOnly layout time) none = ap (TimeOnly layout) (time_back time (rule.within time (rule.alone-up-to-59 time none)))
+record_back (TimeOnly layout time) none = ap (TimeOnly layout) (time_back time (rule.within time (rule.alone_up_to_59 time none)))
 
 -- A record's digits are 0 in each slot that its layout does not use.
 abbrev idle : Bool → ℕ → Type 0
@@ -135,9 +135,9 @@ digits_shown (Dated L6021 status weekday date time) none = omega (arith, small_f
 digits_shown (Dated L2000 status weekday date time) none = omega (arith, small_fields L2000 status weekday date time none)
 digits_shown (Dated L5500 status weekday date time) none = omega (arith, small_fields L5500 status weekday date time none)
 digits_shown (Dated L5050 status weekday date time) none = omega (arith, small_fields L5050 status weekday date time none)
-digits_shown (TimeOnly T6021 time) none = omega (arith, rule.within time (rule.alone-up-to-59 time none))
-digits_shown (TimeOnly T5500 time) none = omega (arith, rule.within time (rule.alone-up-to-59 time none))
-digits_shown (TimeOnly T5050 time) none = omega (arith, rule.within time (rule.alone-up-to-59 time none))
+digits_shown (TimeOnly T6021 time) none = omega (arith, rule.within time (rule.alone_up_to_59 time none))
+digits_shown (TimeOnly T5500 time) none = omega (arith, rule.within time (rule.alone_up_to_59 time none))
+digits_shown (TimeOnly T5050 time) none = omega (arith, rule.within time (rule.alone_up_to_59 time none))
 
 digits_size : (rec : Record) → length (digits_out rec) ≡ slots
 digits_size (Dated layout status weekday date time) = refl

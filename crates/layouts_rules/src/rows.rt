@@ -2,13 +2,13 @@
 use super::Layout;
 
 // Where a row stands among the rows.
-#[derive(Drop)]
+#[derive(Clone, Copy)]
 pub struct Span {
     pub start: usize,
     pub end: usize,
 }
 
-#[derive(Drop)]
+#[derive(Clone, Copy)]
 pub enum LayoutAnswer {
     Found(Layout),
     Refused(u8),

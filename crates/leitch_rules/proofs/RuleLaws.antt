@@ -51,7 +51,7 @@ module _ (reply : Reply) where
 -- what the fields of such a reply are
 module _ (reply : Reply) (g : Good reply) where
   pub time_good : times.Good reply.time
-  time_good = times.good-range reply.time g.time_in_range_law
+  time_good = times.good_range reply.time g.time_in_range_law
 
   pub date_good : dates.Good reply.date
   date_good = dates.good reply.date g.date_good

@@ -1,4 +1,6 @@
 // The reply to a Leitch generator. No code.
+#![tactic(auto)]
+
 pub mod read;
 pub mod write;
 
@@ -6,7 +8,7 @@ use calendar_rules::date::Date;
 use calendar_rules::time::Time;
 
 // A reply as its characters carry it; whether it is a good one is asked by each function.
-#[derive(Drop)]
+#[derive(Clone, Copy)]
 pub struct Reply {
     pub time: Time,
     pub millisecond: u16,

@@ -1,7 +1,7 @@
 // The answer about a reply that is read.
 use super::Reply;
 
-#[derive(Drop)]
+#[derive(Clone, Copy)]
 pub enum ReplyAnswer {
     Good(Reply),
     Refused(u8),

@@ -1,6 +1,6 @@
 // The answer about a reply that is written.
 
-#[derive(Drop)]
+#[derive(Clone, Copy)]
 pub enum WriteAnswer {
     Written(usize),
     Refused(u8),

@@ -1,7 +1,8 @@
 // Bytes laid into a lent buffer, one behind another: how that ends.
+#![tactic(auto)]
 
 // All was laid, or a refusal ended it.
-#[derive(Drop)]
+#[derive(Clone, Copy)]
 pub enum Ending {
     Whole,
     Refused(u8),

@@ -1,4 +1,6 @@
 // The line: a reader that is fed piece by piece and loses no telegram, wherever a piece ends.
+#![tactic(auto)]
+
 mod judge;
 pub mod pieces;
 mod runs;
@@ -23,7 +25,7 @@ pub const PLACES: usize = 38;
 
 const LONGEST: u32 = PLACES as u32 + 1;
 
-#[derive(Drop)]
+#[derive(Clone, Copy)]
 pub struct Reader {
     // The bytes of a started telegram, and zeros behind them.
     pub held: [u8; PLACES],
@@ -36,14 +38,14 @@ pub struct Reader {
     pub order: Order,
 }
 
-#[derive(Drop)]
+#[derive(Clone, Copy)]
 pub struct Fed {
     pub reader: Reader,
     pub taken: usize,
     pub heard: Heard,
 }
 
-#[derive(Drop)]
+#[derive(Clone, Copy)]
 pub struct Ended {
     pub reader: Reader,
     pub heard: Heard,

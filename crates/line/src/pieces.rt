@@ -9,14 +9,14 @@ use refusals::NONE;
 pub const ROOM: usize = 32;
 
 // One event handed on; nothing where none is.
-#[derive(Drop)]
+#[derive(Clone, Copy)]
 pub struct Slot {
     pub heard: Heard,
 }
 
 // The events of a piece in their order. A byte gives at most one event, so of a piece of at most `ROOM` bytes nothing is
 // left; of a longer one the bytes from `taken` on are left where `ROOM` events stand before its end.
-#[derive(Drop)]
+#[derive(Clone, Copy)]
 pub struct Passed {
     pub slots: [Slot; ROOM],
     pub count: usize,

@@ -18,7 +18,7 @@ pub(crate) fn is_plain(byte: u8) -> bool
 }
 
 // Bytes held behind others.
-#[derive(Drop)]
+#[derive(Clone, Copy)]
 pub struct Gathered {
     pub held: [u8; PLACES],
     // How many were added.

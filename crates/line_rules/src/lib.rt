@@ -1,7 +1,9 @@
 // What a serial line tells, byte by byte: no code, and no reader.
+#![tactic(auto)]
+
 use record_rules::RecordAnswer;
 
-#[derive(Drop)]
+#[derive(Clone, Copy)]
 pub enum Heard {
     Nothing,
     // A telegram judged, or bytes refused: the outcome, the position of the first byte, the number of bytes.

@@ -1,4 +1,6 @@
 // The listing: each row as bytes in a lent buffer.
+#![tactic(auto)]
+
 pub mod log_rows;
 pub mod rows;
 

@@ -1,4 +1,6 @@
 // A line, listed: the rows of its events stand one behind another in a lent buffer, piece by piece.
+#![tactic(auto)]
+
 ghost use Rattle.std.specs.Prelude.{◌≡◌, ◌++◌, length, drop};
 ghost use Rattle.lent_buffer.specs.Laying.{laid};
 ghost use Rattle.listing_rules.specs.Answers.{row_answer};
@@ -12,7 +14,7 @@ use refusals::STATE_ILL_FORMED;
 
 // The reader after the bytes that were taken, how many they are, how many bytes their rows take, and how the call ended: the whole
 // piece was taken, or a refusal ended it.
-#[derive(Drop)]
+#[derive(Clone, Copy)]
 pub struct Listed {
     pub reader: Reader,
     pub taken: usize,

@@ -1,4 +1,6 @@
 // A log, listed: the rows of one block laid into a lent buffer.
+#![tactic(auto)]
+
 ghost use Rattle.std.specs.Prelude.{true, ◌≡◌, ◌≤◌, ◌<◌, min, length, take};
 ghost use Rattle.refusals.specs.Refusals.{done};
 ghost use Rattle.lent_buffer.specs.Laying.{laid};
@@ -22,7 +24,7 @@ pub const PAGE: usize = SLOTS * LONGEST_LOG_ROW;
 const BLOCKS: u64 = 1 << 55;
 
 // Whether a block is good, and its row.
-#[derive(Drop)]
+#[derive(Clone, Copy)]
 pub struct VerifiedRow {
     pub good: bool,
     pub row: RowAnswer,

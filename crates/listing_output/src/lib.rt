@@ -1,4 +1,6 @@
 // The listing on standard output: each row is handed on when its event has come.
+#![tactic(auto)]
+
 ghost use Rattle.std.specs.Prelude.{◌≡◌, min};
 ghost use Rattle.line.specs.Readers.{fresh_in, fresh_reader, end_reader};
 ghost use Rattle.listing_of_lines.specs.Pages.{page_of};

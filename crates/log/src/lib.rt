@@ -1,4 +1,6 @@
 // The delivery log: accepted telegrams in blocks of 512 bytes, over a lent region.
+#![tactic(auto)]
+
 pub mod add;
 pub mod block;
 mod check;

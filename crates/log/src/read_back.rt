@@ -9,7 +9,7 @@ use super::{BLOCK_SIZE, COUNT_PLACE, SLOT_SIZE};
 use refusals::{BLOCK_BAD, NO_SUCH_TELEGRAM, NONE, NOT_WHOLE_BLOCKS};
 
 // Where a telegram's bytes begin in the region and how many they are, or the number that refuses it.
-#[derive(Drop)]
+#[derive(Clone, Copy)]
 enum Located {
     At(usize, usize),
     Refused(u8),

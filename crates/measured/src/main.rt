@@ -4,6 +4,8 @@
 // For w it prints the telegrams that were written, so that no byte of them can be left out. For the others it prints how often that
 // went well, of a line how many events it has, and of a region the number of its first bad block, or that of all blocks where none
 // is bad. Input longer than a piece is worked on piece by piece, each for itself, and the numbers of the pieces are added up.
+#![tactic(auto)]
+
 use calendar::date::Date;
 use calendar::time::Time;
 use libc::{STDIN_FILENO, STDOUT_FILENO};

@@ -1,5 +1,7 @@
 // Bytes to digits and back, by places. A row says of each byte of a telegram what stands there: a fixed character, a
 // decimal digit, or a status or weekday character. What is done here knows no layout, and holds for any row.
+#![tactic(auto)]
+
 ghost use Rattle.std.specs.Prelude.{◌≡◌, map, ◌%◌};
 ghost use Rattle.places_rules.specs.Places.{place, is_decimal, is_capital, code_value, kept_at, place_fault, found_in, code_character, byte_at, render, over};
 
@@ -38,7 +40,7 @@ fn code_value(byte: u8) -> u8
 }
 
 // What one place makes of its byte: what its slot then holds, and its refusal, if any.
-#[derive(Drop)]
+#[derive(Clone, Copy)]
 struct Seen {
     value: u8,
     fault: u8,

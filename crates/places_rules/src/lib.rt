@@ -1,4 +1,5 @@
 // Rows of places: what a row finds in bytes, and the bytes that it makes of digits. No code.
+#![tactic(auto)]
 
 // The slots that a row's digits have.
 pub const SLOTS: usize = 32;
@@ -10,7 +11,7 @@ pub const FIRST_DECIMAL: u8 = 128;
 pub const FIRST_CODE: u8 = FIRST_DECIMAL + SLOTS as u8;
 
 // What a row finds in some bytes.
-#[derive(Drop)]
+#[derive(Clone, Copy)]
 pub struct Found {
     // The digits, each in the slot that its place names.
     pub digits: [u8; SLOTS],

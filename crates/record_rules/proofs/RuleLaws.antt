@@ -23,7 +23,7 @@ module _ (time : Time) where
   no_sixty : time_in_range time ≡ true → is_sixty time ≡ true → ⊥
   no_sixty e sixty =
       let second : time.second ≡ 60 = eqb-true _ _ sixty in
-      absurd (omega (arith, times.good-range time e))
+      absurd (omega (arith, times.good_range time e))
 
   up_to_59 : (taken : Bool) → (taken ≡ true → sixty_behind59 time ≡ true) → (time_in_range time || taken) ≡ true → time_in_range (up_to59 time) ≡ true
   unfolding sixty_behind59 up_to59
@@ -54,7 +54,7 @@ pub record Within (time : Time) : Type 0 where
 
 pub within : (time : Time) → time_in_range (up_to59 time) ≡ true → Within time
 unfolding up_to59
-within time e = go (is_sixty time) refl (times.good-range _ e)
+within time e = go (is_sixty time) refl (times.good_range _ e)
   where
     go : (sixty : Bool) → is_sixty time ≡ sixty → times.Good (cond sixty (at59 time) time) → Within time
     go true sixty g =

@@ -1,5 +1,7 @@
 // A record is what a telegram carries: its layout and that layout's fields, and nothing else.
 // So two records are equal exactly when they agree on every carried field. What is right of it stands here: no code.
+#![tactic(auto)]
+
 pub mod season;
 pub mod utc;
 
@@ -7,7 +9,7 @@ use calendar_rules::date::Date;
 use calendar_rules::time::Time;
 
 // The layouts with a date.
-#[derive(Drop)]
+#[derive(Clone, Copy)]
 pub enum DatedLayout {
     L6021,
     L2000,
@@ -16,14 +18,14 @@ pub enum DatedLayout {
 }
 
 // The layouts that carry the time of day alone: 6021t, 5500t and 5050t.
-#[derive(Drop)]
+#[derive(Clone, Copy)]
 pub enum TimeLayout {
     T6021,
     T5500,
     T5050,
 }
 
-#[derive(Drop)]
+#[derive(Clone, Copy)]
 pub enum Reception {
     Invalid,
     Crystal,
@@ -31,7 +33,7 @@ pub enum Reception {
     High,
 }
 
-#[derive(Drop)]
+#[derive(Clone, Copy)]
 pub struct Status {
     pub reception: Reception,
     pub daylight: bool,
@@ -39,14 +41,14 @@ pub struct Status {
     pub announced: bool,
 }
 
-#[derive(Drop)]
+#[derive(Clone, Copy)]
 pub enum Record {
     // Layout, status, weekday (1 Monday to 7 Sunday), date, time.
     Dated(DatedLayout, Status, u8, Date, Time),
     TimeOnly(TimeLayout, Time),
 }
 
-#[derive(Drop)]
+#[derive(Clone, Copy)]
 pub enum RecordAnswer {
     Good(Record),
     Refused(u8),

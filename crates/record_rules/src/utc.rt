@@ -1,7 +1,7 @@
 // The answer about a record's count of seconds.
 use super::season::Count;
 
-#[derive(Drop)]
+#[derive(Clone, Copy)]
 pub enum CountAnswer {
     Counted(Count),
     Refused(u8),

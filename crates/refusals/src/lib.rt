@@ -1,4 +1,6 @@
 // The refusal numbers of documents 01 and 02. Every crate hands out these numbers and no others.
+#![tactic(auto)]
+
 ghost use Rattle.std.specs.Prelude.{◌≡◌};
 ghost use Rattle.refusals.specs.Refusals.{lower};
 

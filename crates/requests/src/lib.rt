@@ -1,4 +1,6 @@
 // The requests that come over the serial line: a letter says what is asked for, and two digits behind it how long the answer waits.
+#![tactic(auto)]
+
 ghost use Rattle.std.specs.Prelude.{◌≡◌, [], ◌∷◌, map};
 ghost use Rattle.places_rules.specs.Places.{place};
 ghost use Rattle.requests.specs.Requests.{delay_for, request_in, request_of};
@@ -8,21 +10,21 @@ use places::FIRST_CODE;
 use refusals::{NO_REQUEST, NONE};
 
 // What is asked for.
-#[derive(Drop)]
+#[derive(Clone, Copy)]
 pub enum Asked {
     Time,
     TimeAndDate,
     UtcTimeAndDate,
 }
 
-#[derive(Drop)]
+#[derive(Clone, Copy)]
 pub struct Request {
     pub asked: Asked,
     // How long the answer waits, in milliseconds.
     pub delay_ms: u16,
 }
 
-#[derive(Drop)]
+#[derive(Clone, Copy)]
 pub enum RequestAnswer {
     Good(Request),
     Refused(u8),

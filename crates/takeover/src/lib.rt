@@ -1,4 +1,6 @@
 // A state that a reader of 24 places left, taken over by the reader of `line`.
+#![tactic(auto)]
+
 ghost use Rattle.std.specs.Prelude.{◌≡◌};
 ghost use Rattle.takeover.specs.TakingOver.{state_of, with_more_places, refused_for, take_over};
 
@@ -10,7 +12,7 @@ use trailer::Order;
 pub const KEPT_PLACES: usize = 24;
 
 // Its state, with the fields that a reader has.
-#[derive(Drop)]
+#[derive(Clone, Copy)]
 pub struct Kept {
     pub held: [u8; KEPT_PLACES],
     pub len: usize,
@@ -20,7 +22,7 @@ pub struct Kept {
     pub order: Order,
 }
 
-#[derive(Drop)]
+#[derive(Clone, Copy)]
 pub struct TakenOver {
     // What goes on with the line; a fresh reader of the same order where the state is refused.
     pub reader: Reader,

@@ -1,4 +1,6 @@
 // One telegram: read and written exactly as the tables say; and several written one behind another.
+#![tactic(auto)]
+
 pub mod read;
 pub mod several;
 pub mod write;

@@ -7,7 +7,7 @@ use lent_buffer::Ending;
 use record::Record;
 
 // How many telegrams stand, how many bytes they take, and the refusal that ended it, if any: every number of a refusal ends it.
-#[derive(Drop)]
+#[derive(Clone, Copy)]
 pub struct Several {
     pub count: usize,
     pub used: usize,

@@ -44,6 +44,8 @@
 //   l        reads the bytes as a reply to a Leitch generator
 //   e        writes a reply: the buffer's length, the reply
 //   q        reads the bytes as a request
+#![tactic(auto)]
+
 mod boards;
 mod dates;
 mod digits;

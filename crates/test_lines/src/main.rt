@@ -1,5 +1,7 @@
 // Lists several lines, each cut into pieces as the input says: two bytes for the length of a piece, the higher first, and the
 // piece; 65535 for a length ends a line, and 65534 at the beginning of one says that it is in exchanged order.
+#![tactic(auto)]
+
 use libc::STDIN_FILENO;
 use listing_output::Printer;
 use trailer::Order;

@@ -6,6 +6,8 @@
 //   A   adds a telegram: a byte for its length, its bytes
 //   R   reads a telegram back: eight bytes for the block, eight for the slot
 //   V   verifies
+#![tactic(auto)]
+
 mod input;
 mod operations;
 mod output;

@@ -2,6 +2,8 @@
 // a line for each month. It reads nothing, and it knows no rule of its own: it asks and prints.
 // A line is the month and 96 groups: for the first day and the last, for each mark, for each time. `records` has the marks and
 // the times in their order, `answers` what a group says.
+#![tactic(auto)]
+
 mod answers;
 mod records;
 mod texts;

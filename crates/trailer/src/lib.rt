@@ -1,4 +1,6 @@
 // The trailer, which is the last two bytes of what stands between STX and ETX, and the order of its CR and LF.
+#![tactic(auto)]
+
 ghost use Rattle.std.specs.Prelude.{◌≡◌};
 ghost use Rattle.trailer_rules.specs.Trailer.{size_from, trailer_at, exchange_at};
 

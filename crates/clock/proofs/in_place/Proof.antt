@@ -165,4 +165,4 @@ in_place_spec 𝓤 𝓛 𝓜 𝓡 =
     entered 𝓤 𝓛.H (triple_of 𝓛 in_place.signature (in_place.spec 𝓛 𝓜.mem 𝓡.run))
     (tables 𝓤 𝓛.H 𝓜 𝓡 code.env).C (tables 𝓤 𝓛.H 𝓜 𝓡 code.env).Λ #clock·in_place code.function (code.unfolded 𝓤 𝓛.H 𝓜 𝓡)
     (in_place_meets 𝓛 𝓜.mem 𝓡.run (tables_of 𝓤 𝓛.H 𝓜 (tables 𝓤 𝓛.H 𝓜 𝓡 code.env))
-    (cited 𝓤 𝓛.H (Lent 𝓛 𝓜.mem 𝓡.run) 𝓜 𝓡 code.env #clock·step_in_place lent_def.routine code.calls-clock::step_in_place (lent_thm.met 𝓤 𝓛 𝓜 𝓡)))
+    (cited 𝓤 𝓛.H (Lent 𝓛 𝓜.mem 𝓡.run) 𝓜 𝓡 code.env #clock·step_in_place lent_def.routine code.calls_clock::step_in_place (lent_thm.met 𝓤 𝓛 𝓜 𝓡)))

@@ -9,7 +9,7 @@ use Rattle.listing.proofs.TextLaws.{behind, as_byte}
 use Rattle.listing_rules.proofs.DecimalLaws.{decimal_last, decimal_pair, decimal_pairs}
 use Rattle.listing.proofs.decimal.Reads as decimal
 use Rattle.listing.proofs.decimal.Kinds as decimal_kinds
-use Rattle.listing.proofs.+decimal.Lts-decimal as decimal_lts
+use Rattle.listing.proofs.+decimal.LtsDecimal as decimal_lts
 use Rattle.listing.proofs.digit.Reads as digit_reads
 use Rattle.listing.proofs.push.Reads as push_reads
 use Rattle.listing.proofs.two.Reads as two_reads

@@ -1,0 +1,46 @@
+-- `calendar::date::day_number` meets its contract: a good date's month stands in the table.
+use mathlib.Core.Path.{sym, ◌∙◌}
+use native.Mathlib.Omega.{arith}
+use borrow.Author.Rules.{rules}
+use Rattle.refusals.specs.Refusals.{unless}
+use Rattle.refusals.proofs.Laws.{refuses}
+use Rattle.calendar_rules.specs.Calendar.{day_number, day_of, month_index}
+use Rattle.calendar_rules.proofs.Months.{start_bound}
+use Rattle.calendar_rules.proofs.Dates.{good, index_within, entry_of}
+use Rattle.calendar.proofs.date.day_number.Goals as goal
+
+pub returns_then_refused_ne_none : goal.returns-then-refused-ne-NONE
+unfolding day_number
+returns_then_refused_ne_none c = refuses _ c.date_refusal-refused.ensures c.if-refused-ne-NONE.true
+
+pub month_starts_starts_requires : goal.month_starts-starts-requires
+month_starts_starts_requires c =
+    let g = good c.args.date (sym c.date_refusal-refused.ensures ∙ c.if-refused-ne-NONE.false) in
+    (g.from_year, g.to_year)
+
+pub overflow_sub_first : goal.overflow_sub-first
+overflow_sub_first c =
+    (good c.args.date (sym c.date_refusal-refused.ensures ∙ c.if-refused-ne-NONE.false)).from_month
+
+pub bounds_starts_date : goal.bounds-starts-date
+bounds_starts_date c =
+    omega (arith, good c.args.date (sym c.date_refusal-refused.ensures ∙ c.if-refused-ne-NONE.false))
+
+pub overflow_sub_result : goal.overflow_sub-result
+overflow_sub_result c =
+    (good c.args.date (sym c.date_refusal-refused.ensures ∙ c.if-refused-ne-NONE.false)).from_day
+
+-- the table's entry for the date's month, where the date is good
+pub overflow_add_result : goal.overflow_add-result
+overflow_add_result c =
+    let date = c.args.date in
+    let g = good date (sym c.date_refusal-refused.ensures ∙ c.if-refused-ne-NONE.false) in
+    rw (entry_of date g _ c.month_starts-starts.ensures)
+    (omega (arith, start_bound (month_index date), index_within date g))
+
+pub returns : goal.returns
+unfolding unless day_number day_of
+returns c =
+    let date = c.args.date in
+    let none = sym c.date_refusal-refused.ensures ∙ c.if-refused-ne-NONE.false in
+    rw (none, entry_of date (good date none) _ c.month_starts-starts.ensures)

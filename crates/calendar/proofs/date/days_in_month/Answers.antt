@@ -1,0 +1,15 @@
+-- `calendar::date::days_in_month` meets its contract.
+use mathlib.Core.Path.{sym, ap, ◌∙◌}
+use borrow.Author.Rules.{rules}
+use borrow.Author.Tests.{not-true, not-false}
+use Rattle.refusals.specs.Refusals.{done, unless}
+use Rattle.calendar.proofs.date.days_in_month.Goals as goal
+
+pub returns_then_not_month_in_range : goal.returns-then-not-month_in_range
+unfolding unless
+returns_then_not_month_in_range c = rw (sym c.month_in_range.ensures ∙ c.if-not-month_in_range.true)
+
+pub returns : goal.returns
+unfolding unless
+returns c =
+    rw (sym c.month_in_range.ensures ∙ c.if-not-month_in_range.false) (ap done c.month_length.ensures)
