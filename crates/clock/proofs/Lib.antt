@@ -3,4 +3,3 @@ pub mod StepLaws
 pub mod RunLaws
 pub mod KeepLaws
 pub mod Whole
-pub mod Machine

@@ -2,7 +2,7 @@
 use mathlib.Core.Path.{◌≡◌, refl, ap, sym, ◌∙◌}
 use mathlib.Core.Bool.{Bool, true, false}
 use mathlib.Core.List.{List, [], ◌∷◌, ◌++◌, append_assoc}
-use Prim.Native.Nat.{ℕ, zero, suc, ◌/◌, ◌^◌, ◌≤◌, ◌<◌}
+use Prim.Native.Nat.{ℕ, zero, suc, ◌+◌, ◌-◌, ◌*◌, ◌/◌, ◌^◌, ◌≤◌, ◌<◌}
 use native.Mathlib.Nat.{pow-suc}
 use native.Mathlib.Omega.{arith}
 use lib.Dec.{ltb}
@@ -73,7 +73,7 @@ decimal_pairs n large =
 -- the digits read back as the number
 value_behind_law : (before : ℕ) (xs ys : List ℕ) → value_behind before (xs ++ ys) ≡ value_behind (value_behind before xs) ys
 value_behind_law before [] ys = refl
-value_behind_law before (x ∷ xs) ys = value_behind_law _ xs ys
+value_behind_law before (x ∷ xs) ys = value_behind_law (10 * before + (x - 48)) xs ys
 
 pub reads_back_law : (n : ℕ) → value_of (decimal n) ≡ n
 reads_back_law n =

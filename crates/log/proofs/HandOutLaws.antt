@@ -35,15 +35,15 @@ module _ (region : Bor (List ℕ)) (block slot : ℕ) (r : Located)
       let answer : read_back_of region.now block slot ≡ done (take size (drop start region.now)) =
       sym known.0 ∙ ap (located_in region.now) is in
       let place = (rw is at known.1).0 in
-      let behind : start + region.ptr.1 ≡ region.ptr.1 + telegram_place block slot = omega (arith, place) in
+      let behind : start + region.ref_ptr.1 ≡ region.ref_ptr.1 + telegram_place block slot = omega (arith, place) in
       rw answer (refl, part_lent size start region.now, ap (λ offset. (region.ref_ptr.0, offset)) behind)
 
   pub nothing_out : (number : ℕ) → r ≡ Refused number
       → HandedOut (read_back_of region.now block slot) (telegram_place block slot) region [] region.ref_ptr number
   nothing_out number is =
       let answer : read_back_of region.now block slot ≡ refused number = sym known.0 ∙ ap (located_in region.now) is in
-      let none : region.ptr.1 ≡ region.ptr.1 + 0 = omega arith in
-      rw answer (refl, refl, ap (λ offset. (region.ptr.0, offset)) none)
+      let none : region.ref_ptr.1 ≡ region.ref_ptr.1 + 0 = omega arith in
+      rw answer (refl, refl, ap (λ offset. (region.ref_ptr.0, offset)) none)
 
 -- No refusal has the number 0, so the 0 beside a part tells that it is a telegram.
 abbrev Told : {A : Type 0} → Outcome A → Type 0

@@ -33,4 +33,4 @@ begin_of (refused number) place = 0
 
 -- the byte of the region at a place, as memory has it: what begins there is no copy
 abbrev pub byte_at : Bor (List ℕ) → ℕ → ℕ × ℕ
-byte_at region place = (region.ptr.0, region.ptr.1 + place)
+byte_at region place = (region.ref_ptr.0, region.ref_ptr.1 + place)

@@ -2,8 +2,8 @@
 use borrow.Author.Tests.{lt-leb, le-leb}
 use Rattle.calendar.proofs.inside.Goals as goal
 
-pub returns_then_x_low : goal.returns-then-x-low
-returns_then_x_low c = simp (lt-leb _ _ c.if-x-low.true)
+pub returns-then-x-low : goal.returns-then-x-low
+returns-then-x-low c = simp (lt-leb _ _ c.if-x-low.true)
 
 pub returns : goal.returns
 returns c = simp (le-leb _ _ c.if-x-low.false)

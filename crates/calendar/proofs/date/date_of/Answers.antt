@@ -7,20 +7,20 @@ use Rattle.calendar_rules.proofs.Months.{month_28_to_31, holding_within, holding
 use borrow.Author.Rules.{rules}
 use Rattle.calendar.proofs.date.date_of.Goals as goal
 
-pub returns_then_day_ge36525 : goal.returns-then-day-ge36525
+pub returns-then-day-ge36525 : goal.returns-then-day-ge36525
 unfolding unless date_of
-returns_then_day_ge36525 c = rw (le-leb 36525 _ c.if-day-ge36525.true)
+returns-then-day-ge36525 c = rw (le-leb 36525 _ c.if-day-ge36525.true)
 
-pub overflow_cast_result : goal.overflow_cast-result
-overflow_cast_result c =
+pub overflow_cast-result : goal.overflow_cast-result
+overflow_cast-result c =
     omega (arith, c.month_holding-month.ensures.0, holding_within c.args.day c.if-day-ge36525.false)
 
-pub overflow_sub_result : goal.overflow_sub-result
-overflow_sub_result c =
+pub overflow_sub-result : goal.overflow_sub-result
+overflow_sub-result c =
     omega (arith, c.month_holding-month.ensures.1, holding_from c.args.day c.if-day-ge36525.false)
 
-pub overflow_cast_result_3 : goal.overflow_cast-result-3
-overflow_cast_result_3 c =
+pub overflow_cast-result-3 : goal.overflow_cast-result-3
+overflow_cast-result-3 c =
     let day = c.args.day in
     let month = month_holding day in
     omega

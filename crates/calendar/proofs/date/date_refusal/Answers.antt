@@ -5,19 +5,19 @@ use borrow.Author.Tests.{not-true, not-false, le-leb, lt-leb}
 use Rattle.calendar_rules.specs.Calendar.{date_refusal, date_in_range, day_exists}
 use Rattle.calendar.proofs.date.date_refusal.Goals as goal
 
-pub returns_then_not_month_in_range : goal.returns-then-not-month_in_range
+pub returns-then-not-month_in_range : goal.returns-then-not-month_in_range
 unfolding date_refusal date_in_range
-returns_then_not_month_in_range c = simp (sym c.month_in_range.ensures ∙ c.if-not-month_in_range.true)
+returns-then-not-month_in_range c = simp (sym c.month_in_range.ensures ∙ c.if-not-month_in_range.true)
 
-pub returns_then_not_inside : goal.returns-then-not-inside
+pub returns-then-not-inside : goal.returns-then-not-inside
 unfolding date_refusal date_in_range
-returns_then_not_inside c =
+returns-then-not-inside c =
     simp
     (sym c.month_in_range.ensures ∙ c.if-not-month_in_range.false, sym c.inside.ensures ∙ c.if-not-inside.true)
 
-pub returns_then_month_length_date : goal.returns-then-month_length-date
+pub returns-then-month_length-date : goal.returns-then-month_length-date
 unfolding date_refusal date_in_range day_exists
-returns_then_month_length_date c =
+returns-then-month_length-date c =
     let month = sym c.month_in_range.ensures ∙ c.if-not-month_in_range.false in
     let day = sym c.inside.ensures ∙ c.if-not-inside.false in
     simp (month, day, sym c.month_length.ensures, lt-leb _ _ c.if-month_length-date.true)

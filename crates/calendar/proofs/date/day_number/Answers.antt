@@ -9,30 +9,30 @@ use Rattle.calendar_rules.proofs.Months.{start_bound}
 use Rattle.calendar_rules.proofs.Dates.{good, index_within, entry_of}
 use Rattle.calendar.proofs.date.day_number.Goals as goal
 
-pub returns_then_refused_ne_none : goal.returns-then-refused-ne-NONE
+pub returns-then-refused-ne-NONE : goal.returns-then-refused-ne-NONE
 unfolding day_number
-returns_then_refused_ne_none c = refuses _ c.date_refusal-refused.ensures c.if-refused-ne-NONE.true
+returns-then-refused-ne-NONE c = refuses _ c.date_refusal-refused.ensures c.if-refused-ne-NONE.true
 
-pub month_starts_starts_requires : goal.month_starts-starts-requires
-month_starts_starts_requires c =
+pub month_starts-starts-requires : goal.month_starts-starts-requires
+month_starts-starts-requires c =
     let g = good c.args.date (sym c.date_refusal-refused.ensures ∙ c.if-refused-ne-NONE.false) in
     (g.from_year, g.to_year)
 
-pub overflow_sub_first : goal.overflow_sub-first
-overflow_sub_first c =
+pub overflow_sub-first : goal.overflow_sub-first
+overflow_sub-first c =
     (good c.args.date (sym c.date_refusal-refused.ensures ∙ c.if-refused-ne-NONE.false)).from_month
 
-pub bounds_starts_date : goal.bounds-starts-date
-bounds_starts_date c =
+pub bounds-starts-date : goal.bounds-starts-date
+bounds-starts-date c =
     omega (arith, good c.args.date (sym c.date_refusal-refused.ensures ∙ c.if-refused-ne-NONE.false))
 
-pub overflow_sub_result : goal.overflow_sub-result
-overflow_sub_result c =
+pub overflow_sub-result : goal.overflow_sub-result
+overflow_sub-result c =
     (good c.args.date (sym c.date_refusal-refused.ensures ∙ c.if-refused-ne-NONE.false)).from_day
 
 -- the table's entry for the date's month, where the date is good
-pub overflow_add_result : goal.overflow_add-result
-overflow_add_result c =
+pub overflow_add-result : goal.overflow_add-result
+overflow_add-result c =
     let date = c.args.date in
     let g = good date (sym c.date_refusal-refused.ensures ∙ c.if-refused-ne-NONE.false) in
     rw (entry_of date g _ c.month_starts-starts.ensures)

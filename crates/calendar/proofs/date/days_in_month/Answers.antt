@@ -5,9 +5,9 @@ use borrow.Author.Tests.{not-true, not-false}
 use Rattle.refusals.specs.Refusals.{done, unless}
 use Rattle.calendar.proofs.date.days_in_month.Goals as goal
 
-pub returns_then_not_month_in_range : goal.returns-then-not-month_in_range
+pub returns-then-not-month_in_range : goal.returns-then-not-month_in_range
 unfolding unless
-returns_then_not_month_in_range c = rw (sym c.month_in_range.ensures ∙ c.if-not-month_in_range.true)
+returns-then-not-month_in_range c = rw (sym c.month_in_range.ensures ∙ c.if-not-month_in_range.true)
 
 pub returns : goal.returns
 unfolding unless

@@ -3,13 +3,13 @@ use borrow.Author.Tests.{eq-eqb, ne_eqb}
 use Rattle.calendar_rules.specs.Calendar.{is_leap}
 use Rattle.calendar.proofs.date.is_leap.Goals as goal
 
-pub returns_then_year_ne0 : goal.returns-then-year-ne0
+pub returns-then-year-ne0 : goal.returns-then-year-ne0
 unfolding is_leap
-returns_then_year_ne0 c = simp (ne_eqb _ _ c.if-year-ne0.true)
+returns-then-year-ne0 c = simp (ne_eqb _ _ c.if-year-ne0.true)
 
-pub returns_then_year_ne0_2 : goal.returns-then-year-ne0-2
+pub returns-then-year-ne0-2 : goal.returns-then-year-ne0-2
 unfolding is_leap
-returns_then_year_ne0_2 c = simp (eq-eqb _ _ c.if-year-ne0.false, ne_eqb _ _ c.if-year-ne0-2.true)
+returns-then-year-ne0-2 c = simp (eq-eqb _ _ c.if-year-ne0.false, ne_eqb _ _ c.if-year-ne0-2.true)
 
 pub returns : goal.returns
 unfolding is_leap

@@ -7,19 +7,19 @@ use Rattle.calendar_rules.specs.Calendar.{month_start}
 use Rattle.calendar_rules.proofs.TableRows.{year_to, not_january, month_before, month_found}
 use Rattle.calendar.proofs.date.month_holding.Goals as goal
 
-pub loop_month_init : goal.loop-month-init
-loop_month_init c = (omega arith, year_to c.args.day c.requires)
+pub loop-month-init : goal.loop-month-init
+loop-month-init c = (omega arith, year_to c.args.day c.requires)
 
-pub overflow_sub_month : goal.overflow_sub-month
-overflow_sub_month c =
+pub overflow_sub-month : goal.overflow_sub-month
+overflow_sub-month c =
     let l = c.loop-month in
     not_january c.args.day c.requires _ c.month_starts-starts.ensures l.month l.invariant.0 c.loop-month-test.true
 
-pub loop_month_smaller : goal.loop-month-smaller
-loop_month_smaller c = omega (arith, overflow_sub_month c)
+pub loop-month-smaller : goal.loop-month-smaller
+loop-month-smaller c = omega (arith, overflow_sub-month c)
 
-pub loop_month_preserved : goal.loop-month-preserved
-loop_month_preserved c =
+pub loop-month-preserved : goal.loop-month-preserved
+loop-month-preserved c =
     let l = c.loop-month in
     (omega arith, month_before c.args.day c.requires _ c.month_starts-starts.ensures l.month l.invariant.0 c.loop-month-test.true)
 

@@ -7,8 +7,8 @@ use Rattle.calendar_rules.specs.Calendar.{month_start}
 use Rattle.calendar_rules.proofs.TableRows.{year_to, not_january, month_before, month_found}
 use Rattle.calendar.proofs.date.month_holding.Given as goal
 
-abbrev pub invariant_loop_month : goal.invariant-loop-month
-invariant_loop_month l = (l.month < 12) × (l.day < month_start (suc (12 * l.years + l.month)))
+abbrev pub invariant-loop-month : goal.invariant-loop-month
+invariant-loop-month l = (l.month < 12) × (l.day < month_start (suc (12 * l.years + l.month)))
 
-abbrev pub decreases_loop_month : goal.decreases-loop-month
-decreases_loop_month l = l.month
+abbrev pub decreases-loop-month : goal.decreases-loop-month
+decreases-loop-month l = l.month

@@ -5,9 +5,9 @@ use borrow.Author.Tests.{not-true, not-false}
 use Rattle.calendar_rules.specs.Calendar.{month_in_range}
 use Rattle.calendar.proofs.date.month_in_range.Goals as goal
 
-pub returns_then_not_inside : goal.returns-then-not-inside
+pub returns-then-not-inside : goal.returns-then-not-inside
 unfolding month_in_range
-returns_then_not_inside c = rw (sym c.inside.ensures ∙ c.if-not-inside.true)
+returns-then-not-inside c = rw (sym c.inside.ensures ∙ c.if-not-inside.true)
 
 pub returns : goal.returns
 unfolding month_in_range

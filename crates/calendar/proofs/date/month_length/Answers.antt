@@ -6,21 +6,21 @@ use borrow.Author.Tests.{ne_eqb}
 use Rattle.calendar_rules.specs.Calendar.{month_length}
 use Rattle.calendar.proofs.date.month_length.Goals as goal
 
-pub returns_then_is_leap : goal.returns-then-is_leap
+pub returns-then-is_leap : goal.returns-then-is_leap
 unfolding month_length
-returns_then_is_leap c = simp (c.in-2.is, sym c.is_leap.ensures ∙ c.if-is_leap.true)
+returns-then-is_leap c = simp (c.in-2.is, sym c.is_leap.ensures ∙ c.if-is_leap.true)
 
-pub returns_else_is_leap : goal.returns-else-is_leap
+pub returns-else-is_leap : goal.returns-else-is_leap
 unfolding month_length
-returns_else_is_leap c = simp (c.in-2.is, sym c.is_leap.ensures ∙ c.if-is_leap.false)
+returns-else-is_leap c = simp (c.in-2.is, sym c.is_leap.ensures ∙ c.if-is_leap.false)
 
-pub returns_in_4 : goal.returns-in-4
+pub returns-in-4 : goal.returns-in-4
 unfolding month_length
-returns_in_4 c = ⊎_elim (λ e. rw e) (⊎_elim (λ e. rw e) (⊎_elim (λ e. rw e) (λ e. rw e))) c.in-4.is
+returns-in-4 c = ⊎_elim (λ e. rw e) (⊎_elim (λ e. rw e) (⊎_elim (λ e. rw e) (λ e. rw e))) c.in-4.is
 
-pub returns_in_default : goal.returns-in_default
+pub returns-in_default : goal.returns-in_default
 unfolding month_length
-returns_in_default c =
+returns-in_default c =
     let other = c.in_default.in_default-own.rest.1 in
     simp (
       ne_eqb _ 2 c.in_default.in_default-own.rest.0.1,

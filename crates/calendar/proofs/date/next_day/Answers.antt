@@ -8,28 +8,28 @@ use Rattle.calendar_rules.specs.Calendar.{next_day, day_after}
 use Rattle.calendar_rules.proofs.Dates.{good, not_last_day, not_last_month, not_last_year, last_day}
 use Rattle.calendar.proofs.date.next_day.Goals as goal
 
-pub returns_then_refused_ne_none : goal.returns-then-refused-ne-NONE
+pub returns-then-refused-ne-NONE : goal.returns-then-refused-ne-NONE
 unfolding next_day
-returns_then_refused_ne_none c = refuses_first _ _ c.date_refusal-refused.ensures c.if-refused-ne-NONE.true
+returns-then-refused-ne-NONE c = refuses_first _ _ c.date_refusal-refused.ensures c.if-refused-ne-NONE.true
 
-pub returns_then_date_month_length : goal.returns-then-date-month_length
+pub returns-then-date-month_length : goal.returns-then-date-month_length
 unfolding unless next_day day_after
-returns_then_date_month_length c =
+returns-then-date-month_length c =
     let short = rw c.month_length.ensures at c.if-date-month_length.true in
     let none = sym c.date_refusal-refused.ensures ∙ c.if-refused-ne-NONE.false in
     simp (none, not_last_day _ short, lt-ltb _ _ short)
 
-pub returns_then_date_lt12 : goal.returns-then-date-lt12
+pub returns-then-date-lt12 : goal.returns-then-date-lt12
 unfolding unless next_day day_after
-returns_then_date_lt12 c =
+returns-then-date-lt12 c =
     let full = rw c.month_length.ensures at c.if-date-month_length.false in
     let none = sym c.date_refusal-refused.ensures ∙ c.if-refused-ne-NONE.false in
     let date = c.args.date in
     simp (none, not_last_month date c.if-date-lt12.true, le-ltb _ _ full, lt-ltb date.month 12 c.if-date-lt12.true)
 
-pub returns_then_date_lt2079 : goal.returns-then-date-lt2079
+pub returns-then-date-lt2079 : goal.returns-then-date-lt2079
 unfolding unless next_day day_after
-returns_then_date_lt2079 c =
+returns-then-date-lt2079 c =
     let full = rw c.month_length.ensures at c.if-date-month_length.false in
     let none = sym c.date_refusal-refused.ensures ∙ c.if-refused-ne-NONE.false in
     let date = c.args.date in

@@ -7,28 +7,28 @@ use Rattle.calendar_rules.proofs.Times.{good_range, not_last_second, not_last_mi
 use borrow.Author.Rules.{rules}
 use Rattle.calendar.proofs.time.next_second.Goals as goal
 
-pub returns_then_not_time_in_range : goal.returns-then-not-time_in_range
+pub returns-then-not-time_in_range : goal.returns-then-not-time_in_range
 unfolding unless time_refusal next_second
-returns_then_not_time_in_range c = rw (sym c.time_in_range.ensures ∙ c.if-not-time_in_range.true)
+returns-then-not-time_in_range c = rw (sym c.time_in_range.ensures ∙ c.if-not-time_in_range.true)
 
-pub returns_then_time_lt59 : goal.returns-then-time-lt59
+pub returns-then-time-lt59 : goal.returns-then-time-lt59
 unfolding unless time_refusal time_after next_second
-returns_then_time_lt59 c =
+returns-then-time-lt59 c =
     let range = sym c.time_in_range.ensures ∙ c.if-not-time_in_range.false in
     let second = c.if-time-lt59.true in
     simp (range, not_last_second c.args.time second, lt-ltb _ _ second)
 
-pub returns_then_time_lt59_2 : goal.returns-then-time-lt59-2
+pub returns-then-time-lt59-2 : goal.returns-then-time-lt59-2
 unfolding unless time_refusal time_after next_second
-returns_then_time_lt59_2 c =
+returns-then-time-lt59-2 c =
     let range = sym c.time_in_range.ensures ∙ c.if-not-time_in_range.false in
     let second = c.if-time-lt59.false in
     let minute = c.if-time-lt59-2.true in
     simp (range, not_last_minute c.args.time minute, le-ltb _ _ second, lt-ltb _ _ minute)
 
-pub returns_then_time_lt23 : goal.returns-then-time-lt23
+pub returns-then-time-lt23 : goal.returns-then-time-lt23
 unfolding unless time_refusal time_after next_second
-returns_then_time_lt23 c =
+returns-then-time-lt23 c =
     let range = sym c.time_in_range.ensures ∙ c.if-not-time_in_range.false in
     let second = c.if-time-lt59.false in
     let minute = c.if-time-lt59-2.false in

@@ -6,9 +6,9 @@ use Rattle.calendar_rules.specs.TimeOfDay.{time_refusal, seconds_of, second_of_d
 use borrow.Author.Rules.{rules}
 use Rattle.calendar.proofs.time.second_of_day.Goals as goal
 
-pub returns_then_not_time_in_range : goal.returns-then-not-time_in_range
+pub returns-then-not-time_in_range : goal.returns-then-not-time_in_range
 unfolding unless time_refusal second_of_day
-returns_then_not_time_in_range c = rw (sym c.time_in_range.ensures ∙ c.if-not-time_in_range.true)
+returns-then-not-time_in_range c = rw (sym c.time_in_range.ensures ∙ c.if-not-time_in_range.true)
 
 pub returns : goal.returns
 unfolding unless time_refusal seconds_of second_of_day

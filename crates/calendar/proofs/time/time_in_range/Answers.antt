@@ -5,13 +5,13 @@ use borrow.Author.Tests.{not-true, not-false}
 use Rattle.calendar_rules.specs.TimeOfDay.{time_in_range}
 use Rattle.calendar.proofs.time.time_in_range.Goals as goal
 
-pub returns_then_not_inside : goal.returns-then-not-inside
+pub returns-then-not-inside : goal.returns-then-not-inside
 unfolding time_in_range
-returns_then_not_inside c = rw (sym c.inside.ensures ∙ c.if-not-inside.true)
+returns-then-not-inside c = rw (sym c.inside.ensures ∙ c.if-not-inside.true)
 
-pub returns_then_not_inside_2 : goal.returns-then-not-inside-2
+pub returns-then-not-inside-2 : goal.returns-then-not-inside-2
 unfolding time_in_range
-returns_then_not_inside_2 c =
+returns-then-not-inside-2 c =
     rw (sym c.inside.ensures ∙ c.if-not-inside.false, sym c.inside-2.ensures ∙ c.if-not-inside-2.true)
 
 pub returns : goal.returns
