@@ -28,12 +28,12 @@ the_account_holds_after_the_end order served used =
     let bytes = bytes_served served in
     let line = line_after (fresh_line order) bytes in
     let told = cut_anywhere (feeding feed_reader) feeding_splits served (fresh_line order) (fresh_in order) (good_fresh order) refl used in
-    let EndedSo = ap end_reader told.1 ∙ end_good line (good_after (fresh_line order) bytes (good_fresh order)) in
+    let ended_so = ap end_reader told.1 ∙ end_good line (good_after (fresh_line order) bytes (good_fresh order)) in
     let moved : lengths_of (fresh_line order) bytes + strays_of (fresh_line order) bytes + length line.held
     ≡ lengths_of (fresh_line order) bytes + sizes_of (heard_then (heard_for (told_by_end line.held) (start_of line)) []) + strays_of (fresh_line order) bytes =
     omega (arith, end_size line.held (start_of line)) in (
-      ap (λ ended. ended.reader.fed) EndedSo
+      ap (λ ended. ended.reader.fed) ended_so
           ∙ ap (λ n. n % 2 ^ 32) (sum order bytes ∙ moved)
-          ∙ ap (λ ended. (lengths_of (fresh_line order) bytes + sizes_of (heard_then ended.heard []) + strays_of (fresh_line order) bytes) % 2 ^ 32) (sym EndedSo),
-      ap (λ ended. ended.reader.stray) EndedSo ∙ ap (λ n. n % 2 ^ 32) (stray_is order bytes),
+          ∙ ap (λ ended. (lengths_of (fresh_line order) bytes + sizes_of (heard_then ended.heard []) + strays_of (fresh_line order) bytes) % 2 ^ 32) (sym ended_so),
+      ap (λ ended. ended.reader.stray) ended_so ∙ ap (λ n. n % 2 ^ 32) (stray_is order bytes),
     )
