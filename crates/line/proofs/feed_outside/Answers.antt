@@ -1,0 +1,23 @@
+-- `line::feed_outside` meets its contract.
+use Rattle.std.proofs.Common.{sym, ◌∙◌, arith, rules}
+use Rattle.line_rules.proofs.RunLaws.{begins_at_once, stray_ends}
+use Rattle.line.proofs.Strays.{outside_all}
+use Rattle.line.proofs.feed_outside.Goals as goal
+
+pub feed_from_stx-requires : goal.feed_from_stx-requires
+feed_from_stx-requires c = begins_at_once c.args.piece.now (sym c.begins_with_stx.ensures ∙ c.if-begins_with_stx.true)
+
+pub returns-then-skipped-piece : goal.returns-then-skipped-piece
+returns-then-skipped-piece c =
+    let a = c.args in
+    outside_all a.order a.fed a.stray a.piece.now _ _ _ _
+    c.stray_run-skipped.ensures
+    c.if-skipped-piece.true
+    c.moved.ensures
+    c.moved-then-skipped-piece.ensures
+    c.outside.ensures
+
+pub feed_from_stx-requires-2 : goal.feed_from_stx-requires-2
+feed_from_stx-requires-2 c =
+    let run = c.stray_run-skipped.ensures in
+    (run, omega (arith, run, (stray_ends c.args.piece.now).0))

@@ -1,0 +1,13 @@
+-- `line::pieces::use_up` meets its contract. The loop's invariant: the events so far, and what the rest of the piece still gives.
+use Rattle.std.proofs.Common.{◌≡◌, ◌-◌, ◌<◌, ◌≤◌, length, take, drop, sym, refl, ap, ◌∙◌, arith, length-drop, length-set, length-take, rules}
+use Rattle.line.specs.Pieces.{room, pass_on, passing, slot_of, passed_for}
+use Rattle.line.proofs.PieceLaws.{feed_fits, behind, Empty, at_first, still_empty, ends_with, goes_on, full_ends}
+use Rattle.line.proofs.pieces.use_up.Given as goal
+
+abbrev pub invariant-loop-count : goal.invariant-loop-count
+invariant-loop-count l =
+    (l.length ≡ length l.piece) × (l.taken ≤ length l.piece) × (l.count ≤ room) × (length l.slots ≡ room) × Empty l.slots l.count
+    × (passed_for (passing room l.initial.next l.piece) ≡ behind l.slots l.count l.taken (passing (room - l.count) l.next (drop l.taken l.piece)))
+
+abbrev pub decreases-loop-count : goal.decreases-loop-count
+decreases-loop-count l = room - l.count

@@ -1,0 +1,15 @@
+-- `listing::append` meets its contract. The loop's invariant: with what is left of the word behind it, the text is whole.
+use mathlib.Core.Path.{◌≡◌, refl, sym, ◌∙◌}
+use Prim.Native.Nat.{◌-◌}
+use native.Mathlib.Omega.{arith}
+use lib.ListN.{length, drop}
+use borrow.Author.Rules.{rules}
+use Rattle.listing.specs.Texts.{text_of, appended}
+use Rattle.listing.proofs.TextLaws.{one_more, no_more_law}
+use Rattle.listing.proofs.append.Given as goal
+
+abbrev pub invariant-loop-at : goal.invariant-loop-at
+invariant-loop-at l = appended (text_of l.text l.end) (drop l.at l.word) ≡ appended (text_of l.initial.text l.len) l.word
+
+abbrev pub decreases-loop-at : goal.decreases-loop-at
+decreases-loop-at l = length l.word - l.at

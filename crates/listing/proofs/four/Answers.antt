@@ -1,0 +1,7 @@
+-- `listing::four` meets its contract.
+use Rattle.listing.proofs.TextLaws.{behind}
+use borrow.Author.Rules.{rules}
+use Rattle.listing.proofs.four.Goals as goal
+
+pub returns : goal.returns
+returns c = behind _ _ _ c.two-len.ensures c.two.ensures

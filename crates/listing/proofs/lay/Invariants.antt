@@ -1,0 +1,15 @@
+-- `listing::lay` meets its contract. The loop's invariant: the first `at` bytes are laid.
+use mathlib.Core.Path.{◌≡◌, refl, ap, ◌∙◌}
+use mathlib.Core.List.{◌++◌}
+use Prim.Native.Nat.{◌-◌, ◌≤◌}
+use native.Mathlib.Omega.{arith}
+use lib.ListN.{length, take, drop, get_or, set, length-set}
+use Rattle.listing.proofs.TextLaws.{copy_step, no_room, all_laid}
+use Rattle.listing.proofs.lay.Given as goal
+
+abbrev pub invariant-loop-at : goal.invariant-loop-at
+invariant-loop-at l =
+    (l.at ≤ l.len) × (length l.out ≡ length l.initial.out) × (l.out ≡ take l.at l.bytes ++ drop l.at l.initial.out)
+
+abbrev pub decreases-loop-at : goal.decreases-loop-at
+decreases-loop-at l = l.len - l.at

@@ -1,0 +1,8 @@
+-- `listing::rows::header` meets its contract.
+use Rattle.listing_rules.specs.Listing.{header_row}
+use borrow.Author.Rules.{rules}
+use Rattle.listing.proofs.rows.header.Goals as goal
+
+pub returns : goal.returns
+unfolding header_row
+returns c = c.lay.ensures

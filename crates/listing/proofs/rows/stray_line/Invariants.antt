@@ -1,0 +1,12 @@
+-- `listing::rows::stray_line` meets its contract.
+use mathlib.Core.Path.{sym}
+use native.Mathlib.Omega.{arith}
+use Rattle.listing.specs.Texts.{text_of}
+use Rattle.listing_rules.specs.Listing.{stray_row}
+use Rattle.listing.proofs.TextLaws.{behind, Holds, holds, stands, row_laid}
+use Rattle.listing_rules.proofs.RowLaws.{stray_short}
+use borrow.Author.Rules.{rules}
+use Rattle.listing.proofs.rows.stray_line.Given as goal
+
+abbrev pub invariant-After-push : goal.invariant-After-push
+invariant-After-push l = c.before.before.before.before.before.before.before.before
