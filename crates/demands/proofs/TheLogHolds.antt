@@ -6,7 +6,7 @@ use Rattle.log_rules.proofs.CheckLaws.{noticed, the_sum_fits, one_reduction_is_e
 use Rattle.log_rules.proofs.PlaceHolds.{verify_names_the_first_bad_block, no_blocks_are_good_and_full, an_add_goes_behind_the_last_used, that_place_is_taken, no_such_place_is_refused}
 use Rattle.log_rules.proofs.AddLaws.{reads_place}
 use Rattle.log_rules.proofs.AddHolds.{what_is_added_is_read_back, what_was_read_back_still_is, good_blocks_stay_good, no_other_byte_changes, a_refused_add_leaves_the_region, a_block_spoils_no_other}
-use Rattle.log.proofs.HandOutLaws.{zero_tells}
+use Rattle.delivery_log.proofs.HandOutLaws.{zero_tells}
 use Rattle.log_rules.proofs.FillHolds.{adds_fill_zeroed_blocks_in_order}
 use Rattle.demands.specs.TheLog.{AnAddedTelegramIsReadBack, AnAddTakesTheFreeSlot, TheFirstBadBlockIsNamed, TheLogIsAsAskedFor}
 

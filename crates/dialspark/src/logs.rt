@@ -4,7 +4,7 @@ use super::{is_whole, reads, tell};
 use listing::{LONGEST_LOG_ROW, RowAnswer, log_rows};
 use listing_of_logs::PAGE;
 use listing_output::{Output, print_row};
-use log::BLOCK_SIZE;
+use delivery_log::BLOCK_SIZE;
 use refusals::NOT_WHOLE_BLOCKS;
 
 // What is listed: a row for each telegram of the good blocks, or a row for each block.

@@ -12,8 +12,8 @@ ghost use Rattle.listing_of_logs.specs.LogPages.{row_of, rows_from, block_rows, 
 
 use listing::log_rows::{bad_row, block_row, good_row, slot_row};
 use listing::{LONGEST_LOG_ROW, RowAnswer};
-use log::block::is_good;
-use log::{BLOCK_SIZE, COUNT_PLACE, SLOT_SIZE, SLOTS};
+use delivery_log::block::is_good;
+use delivery_log::{BLOCK_SIZE, COUNT_PLACE, SLOT_SIZE, SLOTS};
 use record::RecordAnswer;
 use refusals::{BLOCK_BAD, BUFFER_SHORT};
 

@@ -10,8 +10,8 @@ use calendar::date::Date;
 use calendar::time::Time;
 use libc::{STDIN_FILENO, STDOUT_FILENO};
 use line::Reader;
-use log::add::AddAnswer;
-use log::verify::Verified;
+use delivery_log::add::AddAnswer;
+use delivery_log::verify::Verified;
 use record::{DatedLayout, Reception, Record, RecordAnswer, Status, TimeLayout};
 use telegram::write::{Choice, Setting, WriteAnswer};
 
@@ -136,15 +136,15 @@ fn events(data: &[u8]) -> u64 {
 }
 
 fn good_blocks(region: &[u8]) -> u64 {
-    match log::verify::verify(region) {
-        Verified::AllGood => (region.len() / log::BLOCK_SIZE) as u64,
+    match delivery_log::verify::verify(region) {
+        Verified::AllGood => (region.len() / delivery_log::BLOCK_SIZE) as u64,
         Verified::Bad(_, block) => block as u64,
         Verified::Refused(_) => 0,
     }
 }
 
 fn adds(region: &mut [u8]) -> bool {
-    match log::add::add(region, b"\x02E3123456170496\n\r\x03") {
+    match delivery_log::add::add(region, b"\x02E3123456170496\n\r\x03") {
         AddAnswer::Added(_) => true,
         AddAnswer::Refused(_) => false,
     }

@@ -38,10 +38,10 @@ module _ (state : Reader) (size : length state.held ≡ kept_places) (fits : sta
       (ap₂ ◌&&◌ (ap is_started same_held) (ap₂ ◌&&◌ zero (ap (λ line. eqb state.start (start_of line)) same_line)))
 
 -- so the reader's own test decides
-pub by_the_reader : (kept : Kept) (reader : Reader) → length (map (λ (byte : ℕ). byte) kept.held) ≡ kept_places → kept.len ≤ kept_places
+pub by_the_reader : (kept : Kept) (reader : Reader) → length kept.held ≡ kept_places → kept.len ≤ kept_places
     → reader ≡ with_more_places (state_of kept) → was_well_formed kept ≡ well_formed reader
 by_the_reader kept reader size fits is =
-    sym (ap well_formed is ∙ as_well_formed (state_of kept) (sym (length-map kept.held (λ byte. byte)) ∙ size) fits)
+    sym (ap well_formed is ∙ as_well_formed (state_of kept) size fits)
 
 -- more held than there were places
 pub too_many : (kept : Kept) → kept_places < kept.len → was_well_formed kept ≡ false

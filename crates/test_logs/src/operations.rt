@@ -1,7 +1,7 @@
 // The operations of a script: each reads what stands behind its letter and prints its line.
 use super::{input, output, parts};
-use log::add::AddAnswer;
-use log::verify::Verified;
+use delivery_log::add::AddAnswer;
+use delivery_log::verify::Verified;
 
 // What `number` holds before it is lent.
 const UNTOUCHED: u8 = 255;
@@ -25,7 +25,7 @@ pub(crate) fn add(region: &mut [u8]) {
     let mut telegram = [0u8; 255];
     input::fill(&mut telegram, count);
     output::word(b"add ");
-    match log::add::add(region, parts::first(&telegram, count)) {
+    match delivery_log::add::add(region, parts::first(&telegram, count)) {
         AddAnswer::Added(place) => {
             output::number(place.block as u64);
             output::word(b" ");
@@ -39,7 +39,7 @@ pub(crate) fn read(region: &[u8]) {
     let block = input::number_64() as usize;
     let slot = input::number_64() as usize;
     let mut number = UNTOUCHED;
-    let telegram = log::read_back::read_back(region, block, slot, &mut number);
+    let telegram = delivery_log::read_back::read_back(region, block, slot, &mut number);
     output::word(b"read ");
     if number == 0 {
         output::hex(telegram);
@@ -50,7 +50,7 @@ pub(crate) fn read(region: &[u8]) {
 
 pub(crate) fn verify(region: &[u8]) {
     output::word(b"verify ");
-    match log::verify::verify(region) {
+    match delivery_log::verify::verify(region) {
         Verified::AllGood => output::word(b"good"),
         Verified::Bad(number, block) => {
             output::refused(number);

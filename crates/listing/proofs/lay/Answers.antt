@@ -35,9 +35,6 @@ loop-at-preserved c =
       ap (λ o. set o l.at (get_or bytes l.at 0)) l.invariant.2 ∙ copy_step bytes a.out.now l.at (omega arith) (omega arith),
     )
 
-pub shape_of-out : goal.shape_of-out
-shape_of-out c = c.loop-at.invariant.1
-
 pub returns : goal.returns
 returns c =
     let l = c.loop-at in

@@ -8,20 +8,29 @@ use Rattle.listing_rules.proofs.LogRowLaws.{bad_count_short}
 use borrow.Author.Rules.{rules}
 use Rattle.listing.proofs.log_rows.bad_line.Goals as goal
 
--- the text, once all of it stands
-whole : (c : tie.After-push) → Holds (text_of c.push.new.0 c.push.result) (bad_count (entry c).args.bad)
-unfolding bad_count
-whole c =
-    let a = (entry c).args in
-    let number = behind _ _ _ c.before.before.before.before.append.ensures c.before.before.decimal.ensures in
-    holds _ _ (behind _ _ _ number c.push.ensures) (omega (arith, bad_count_short a.bad (omega arith)))
-
 pub slice_bounds-lay-end : goal.slice_bounds-lay-end
-slice_bounds-lay-end c = sym (whole c.before).room
+unfolding bad_count
+slice_bounds-lay-end c =
+    let whole : Holds (text_of c.push-len.new.text c.push-len.result) (bad_count c.args.bad) =
+    let a = c.args in
+    let number = behind _ _ _ c.append-len.ensures c.decimal-len.ensures in
+    holds _ _ (behind _ _ _ number c.push-len.ensures) (omega (arith, bad_count_short a.bad (omega arith))) in
+    sym (whole).room
 
 pub lay-requires : goal.lay-requires
-lay-requires c = stands (whole c.before.before)
+unfolding bad_count
+lay-requires c =
+    let whole : Holds (text_of c.push-len.new.text c.push-len.result) (bad_count c.args.bad) =
+    let a = c.args in
+    let number = behind _ _ _ c.append-len.ensures c.decimal-len.ensures in
+    holds _ _ (behind _ _ _ number c.push-len.ensures) (omega (arith, bad_count_short a.bad (omega arith))) in
+    stands (whole)
 
 pub returns : goal.returns
+unfolding bad_count
 returns c =
-    row_laid (whole c.before.before.before.before.before) (entry c.before.before.before.before.before).args.out.now c.lay.ensures
+    let whole : Holds (text_of c.push-len.new.text c.push-len.result) (bad_count c.args.bad) =
+    let a = c.args in
+    let number = behind _ _ _ c.append-len.ensures c.decimal-len.ensures in
+    holds _ _ (behind _ _ _ number c.push-len.ensures) (omega (arith, bad_count_short a.bad (omega arith))) in
+    row_laid (whole) c.args.out.now c.lay.ensures

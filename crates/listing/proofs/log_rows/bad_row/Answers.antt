@@ -8,19 +8,26 @@ use Rattle.listing_rules.proofs.LogRowLaws.{bad_short}
 use borrow.Author.Rules.{rules}
 use Rattle.listing.proofs.log_rows.bad_row.Goals as goal
 
--- the text, once all of it stands
-whole : (c : tie.After-append) → Holds (text_of c.append.new.0 c.append.result) (bad_row (entry c).args.block (entry c).args.offset)
-unfolding bad_row
-whole c =
-    let a = (entry c).args in
-    holds _ _ (behind _ _ _ c.before.before.before.block-columns.ensures c.append.ensures) (omega (arith, bad_short a.block a.offset (omega arith) (omega arith)))
-
 pub slice_bounds-lay-end : goal.slice_bounds-lay-end
-slice_bounds-lay-end c = sym (whole c.before).room
+unfolding bad_row
+slice_bounds-lay-end c =
+    let whole : Holds (text_of c.append-len.new.text c.append-len.result) (bad_row c.args.block c.args.offset) =
+    let a = c.args in
+    holds _ _ (behind _ _ _ c.block_columns-len.ensures c.append-len.ensures) (omega (arith, bad_short a.block a.offset (omega arith) (omega arith))) in
+    sym (whole).room
 
 pub lay-requires : goal.lay-requires
-lay-requires c = stands (whole c.before.before)
+unfolding bad_row
+lay-requires c =
+    let whole : Holds (text_of c.append-len.new.text c.append-len.result) (bad_row c.args.block c.args.offset) =
+    let a = c.args in
+    holds _ _ (behind _ _ _ c.block_columns-len.ensures c.append-len.ensures) (omega (arith, bad_short a.block a.offset (omega arith) (omega arith))) in
+    stands (whole)
 
 pub returns : goal.returns
+unfolding bad_row
 returns c =
-    row_laid (whole c.before.before.before.before.before) (entry c.before.before.before.before.before).args.out.now c.lay.ensures
+    let whole : Holds (text_of c.append-len.new.text c.append-len.result) (bad_row c.args.block c.args.offset) =
+    let a = c.args in
+    holds _ _ (behind _ _ _ c.block_columns-len.ensures c.append-len.ensures) (omega (arith, bad_short a.block a.offset (omega arith) (omega arith))) in
+    row_laid (whole) c.args.out.now c.lay.ensures

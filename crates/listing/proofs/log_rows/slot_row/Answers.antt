@@ -10,26 +10,37 @@ use Rattle.listing_rules.proofs.LogRowLaws.{slot_short}
 use borrow.Author.Rules.{rules}
 use Rattle.listing.proofs.log_rows.slot_row.Goals as goal
 
--- the text, once all of it stands
-whole : (c : tie.After-columns) → Holds (text_of c.columns.new.0 c.columns.result) (slot_row (entry c).args.block (entry c).args.slot (entry c).args.rec)
-unfolding slot_row
-whole c =
-    let a = (entry c).args in
-    let block = behind _ _ _ c.before.before.before.before.before.before.before.before.decimal.ensures c.before.before.before.before.before.before.push.ensures in
-    let slot = behind _ _ _ (behind _ _ _ block c.before.before.before.before.decimal2.ensures) c.before.before.push2.ensures in
-    holds _ _ (behind _ _ _ slot c.columns.ensures) (omega (arith, slot_short a.block a.slot (omega arith) (omega arith) a.rec))
-
 pub returns-then-refused-ne-NONE : goal.returns-then-refused-ne-NONE
 returns-then-refused-ne-NONE c = let a = c.args in rule_refuses a.rec (slot_row a.block a.slot a.rec) a.out.now _ c.refusal-refused.ensures c.if-refused-ne-NONE.true
 
 pub slice_bounds-lay-end : goal.slice_bounds-lay-end
-slice_bounds-lay-end c = sym (whole c.before).room
+unfolding slot_row
+slice_bounds-lay-end c =
+    let whole : Holds (text_of c.columns-len.new.text c.columns-len.result) (slot_row c.args.block c.args.slot c.args.rec) =
+    let a = c.args in
+    let block = behind _ _ _ c.decimal-len.ensures c.push-len.ensures in
+    let slot = behind _ _ _ (behind _ _ _ block c.decimal-len-2.ensures) c.push-len-2.ensures in
+    holds _ _ (behind _ _ _ slot c.columns-len.ensures) (omega (arith, slot_short a.block a.slot (omega arith) (omega arith) a.rec)) in
+    sym (whole).room
 
 pub lay-requires : goal.lay-requires
-lay-requires c = stands (whole c.before.before)
+unfolding slot_row
+lay-requires c =
+    let whole : Holds (text_of c.columns-len.new.text c.columns-len.result) (slot_row c.args.block c.args.slot c.args.rec) =
+    let a = c.args in
+    let block = behind _ _ _ c.decimal-len.ensures c.push-len.ensures in
+    let slot = behind _ _ _ (behind _ _ _ block c.decimal-len-2.ensures) c.push-len-2.ensures in
+    holds _ _ (behind _ _ _ slot c.columns-len.ensures) (omega (arith, slot_short a.block a.slot (omega arith) (omega arith) a.rec)) in
+    stands (whole)
 
 pub returns : goal.returns
+unfolding slot_row
 returns c =
-    let a = (entry c.before.before.before.before.before).args in
+    let whole : Holds (text_of c.columns-len.new.text c.columns-len.result) (slot_row c.args.block c.args.slot c.args.rec) =
+    let a = c.args in
+    let block = behind _ _ _ c.decimal-len.ensures c.push-len.ensures in
+    let slot = behind _ _ _ (behind _ _ _ block c.decimal-len-2.ensures) c.push-len-2.ensures in
+    holds _ _ (behind _ _ _ slot c.columns-len.ensures) (omega (arith, slot_short a.block a.slot (omega arith) (omega arith) a.rec)) in
+    let a = c.args in
     let passes = rule_passes a.rec (slot_row a.block a.slot a.rec) _ c.refusal-refused.ensures c.if-refused-ne-NONE.false in
-    ap (λ o. laid o a.out.now) passes ∙ row_laid (whole c.before.before.before.before.before) a.out.now c.lay.ensures
+    ap (λ o. laid o a.out.now) passes ∙ row_laid (whole) a.out.now c.lay.ensures

@@ -8,22 +8,35 @@ use Rattle.listing_rules.proofs.LogRowLaws.{tail_short}
 use borrow.Author.Rules.{rules}
 use Rattle.listing.proofs.log_rows.tail_row.Goals as goal
 
--- the text, once all of it stands
-whole : (c : tie.After-push) → Holds (text_of c.push.new.0 c.push.result) (tail_row (entry c).args.block (entry c).args.offset (entry c).args.number)
-unfolding tail_row
-whole c =
-    let a = (entry c).args in
-    let word = behind _ _ _ c.before.before.before.before.before.before.before.block-columns.ensures c.before.before.before.before.append.ensures in
-    let number = behind _ _ _ word c.before.before.decimal.ensures in
-    holds _ _ (behind _ _ _ number c.push.ensures)
-    (omega (arith, tail_short a.block a.offset (omega arith) (omega arith) a.number (omega arith)))
-
 pub slice_bounds-lay-end : goal.slice_bounds-lay-end
-slice_bounds-lay-end c = sym (whole c.before).room
+unfolding tail_row
+slice_bounds-lay-end c =
+    let whole : Holds (text_of c.push-len.new.text c.push-len.result) (tail_row c.args.block c.args.offset c.args.number) =
+    let a = c.args in
+    let word = behind _ _ _ c.block_columns-len.ensures c.append-len.ensures in
+    let number = behind _ _ _ word c.decimal-len.ensures in
+    holds _ _ (behind _ _ _ number c.push-len.ensures)
+    (omega (arith, tail_short a.block a.offset (omega arith) (omega arith) a.number (omega arith))) in
+    sym (whole).room
 
 pub lay-requires : goal.lay-requires
-lay-requires c = stands (whole c.before.before)
+unfolding tail_row
+lay-requires c =
+    let whole : Holds (text_of c.push-len.new.text c.push-len.result) (tail_row c.args.block c.args.offset c.args.number) =
+    let a = c.args in
+    let word = behind _ _ _ c.block_columns-len.ensures c.append-len.ensures in
+    let number = behind _ _ _ word c.decimal-len.ensures in
+    holds _ _ (behind _ _ _ number c.push-len.ensures)
+    (omega (arith, tail_short a.block a.offset (omega arith) (omega arith) a.number (omega arith))) in
+    stands (whole)
 
 pub returns : goal.returns
+unfolding tail_row
 returns c =
-    row_laid (whole c.before.before.before.before.before) (entry c.before.before.before.before.before).args.out.now c.lay.ensures
+    let whole : Holds (text_of c.push-len.new.text c.push-len.result) (tail_row c.args.block c.args.offset c.args.number) =
+    let a = c.args in
+    let word = behind _ _ _ c.block_columns-len.ensures c.append-len.ensures in
+    let number = behind _ _ _ word c.decimal-len.ensures in
+    holds _ _ (behind _ _ _ number c.push-len.ensures)
+    (omega (arith, tail_short a.block a.offset (omega arith) (omega arith) a.number (omega arith))) in
+    row_laid (whole) c.args.out.now c.lay.ensures

@@ -8,20 +8,29 @@ use Rattle.listing_rules.proofs.RowLaws.{record_short}
 use borrow.Author.Rules.{rules}
 use Rattle.listing.proofs.rows.record_row.Goals as goal
 
--- the text, once all of it stands
-whole : (c : tie.After-columns) → Holds (text_of c.columns.new.0 c.columns.result) (record_row (entry c).args.start (entry c).args.rec)
-unfolding record_row
-whole c =
-    let a = (entry c).args in
-    let start = behind _ _ _ c.before.before.before.before.decimal.ensures c.before.before.push.ensures in
-    holds _ _ (behind _ _ _ start c.columns.ensures) (omega (arith, record_short a.start (omega arith) a.rec))
-
 pub slice_bounds-lay-end : goal.slice_bounds-lay-end
-slice_bounds-lay-end c = sym (whole c.before).room
+unfolding record_row
+slice_bounds-lay-end c =
+    let whole : Holds (text_of c.columns-len.new.text c.columns-len.result) (record_row c.args.start c.args.rec) =
+    let a = c.args in
+    let start = behind _ _ _ c.decimal-len.ensures c.push-len.ensures in
+    holds _ _ (behind _ _ _ start c.columns-len.ensures) (omega (arith, record_short a.start (omega arith) a.rec)) in
+    sym (whole).room
 
 pub lay-requires : goal.lay-requires
-lay-requires c = stands (whole c.before.before)
+unfolding record_row
+lay-requires c =
+    let whole : Holds (text_of c.columns-len.new.text c.columns-len.result) (record_row c.args.start c.args.rec) =
+    let a = c.args in
+    let start = behind _ _ _ c.decimal-len.ensures c.push-len.ensures in
+    holds _ _ (behind _ _ _ start c.columns-len.ensures) (omega (arith, record_short a.start (omega arith) a.rec)) in
+    stands (whole)
 
 pub returns : goal.returns
+unfolding record_row
 returns c =
-    row_laid (whole c.before.before.before.before.before) (entry c.before.before.before.before.before).args.out.now c.lay.ensures
+    let whole : Holds (text_of c.columns-len.new.text c.columns-len.result) (record_row c.args.start c.args.rec) =
+    let a = c.args in
+    let start = behind _ _ _ c.decimal-len.ensures c.push-len.ensures in
+    holds _ _ (behind _ _ _ start c.columns-len.ensures) (omega (arith, record_short a.start (omega arith) a.rec)) in
+    row_laid (whole) c.args.out.now c.lay.ensures

@@ -8,22 +8,35 @@ use Rattle.listing_rules.proofs.RowLaws.{refused_short}
 use borrow.Author.Rules.{rules}
 use Rattle.listing.proofs.rows.refused_row.Goals as goal
 
--- the text, once all of it stands
-whole : (c : tie.After-push) → Holds (text_of c.push.new.0 c.push.result) (refused_row (entry c).args.start (entry c).args.number)
-unfolding refused_row
-whole c =
-    let a = (entry c).args in
-    let start = behind _ _ _ c.before.before.before.before.before.before.before.decimal.ensures c.before.before.before.before.append.ensures in
-    let number = behind _ _ _ start c.before.before.decimal2.ensures in
-    holds _ _ (behind _ _ _ number c.push.ensures)
-    (omega (arith, refused_short a.start a.number (omega arith) (omega arith)))
-
 pub slice_bounds-lay-end : goal.slice_bounds-lay-end
-slice_bounds-lay-end c = sym (whole c.before).room
+unfolding refused_row
+slice_bounds-lay-end c =
+    let whole : Holds (text_of c.push-len.new.text c.push-len.result) (refused_row c.args.start c.args.number) =
+    let a = c.args in
+    let start = behind _ _ _ c.decimal-len.ensures c.append-len.ensures in
+    let number = behind _ _ _ start c.decimal-len-2.ensures in
+    holds _ _ (behind _ _ _ number c.push-len.ensures)
+    (omega (arith, refused_short a.start a.number (omega arith) (omega arith))) in
+    sym (whole).room
 
 pub lay-requires : goal.lay-requires
-lay-requires c = stands (whole c.before.before)
+unfolding refused_row
+lay-requires c =
+    let whole : Holds (text_of c.push-len.new.text c.push-len.result) (refused_row c.args.start c.args.number) =
+    let a = c.args in
+    let start = behind _ _ _ c.decimal-len.ensures c.append-len.ensures in
+    let number = behind _ _ _ start c.decimal-len-2.ensures in
+    holds _ _ (behind _ _ _ number c.push-len.ensures)
+    (omega (arith, refused_short a.start a.number (omega arith) (omega arith))) in
+    stands (whole)
 
 pub returns : goal.returns
+unfolding refused_row
 returns c =
-    row_laid (whole c.before.before.before.before.before) (entry c.before.before.before.before.before).args.out.now c.lay.ensures
+    let whole : Holds (text_of c.push-len.new.text c.push-len.result) (refused_row c.args.start c.args.number) =
+    let a = c.args in
+    let start = behind _ _ _ c.decimal-len.ensures c.append-len.ensures in
+    let number = behind _ _ _ start c.decimal-len-2.ensures in
+    holds _ _ (behind _ _ _ number c.push-len.ensures)
+    (omega (arith, refused_short a.start a.number (omega arith) (omega arith))) in
+    row_laid (whole) c.args.out.now c.lay.ensures

@@ -8,20 +8,29 @@ use Rattle.listing_rules.proofs.RowLaws.{stray_short}
 use borrow.Author.Rules.{rules}
 use Rattle.listing.proofs.rows.stray_line.Goals as goal
 
--- the text, once all of it stands
-whole : (c : tie.After-push) → Holds (text_of c.push.new.0 c.push.result) (stray_row (entry c).args.stray)
-unfolding stray_row
-whole c =
-    let a = (entry c).args in
-    let number = behind _ _ _ c.before.before.before.before.append.ensures c.before.before.decimal.ensures in
-    holds _ _ (behind _ _ _ number c.push.ensures) (omega (arith, stray_short a.stray (omega arith)))
-
 pub slice_bounds-lay-end : goal.slice_bounds-lay-end
-slice_bounds-lay-end c = sym (whole c.before).room
+unfolding stray_row
+slice_bounds-lay-end c =
+    let whole : Holds (text_of c.push-len.new.text c.push-len.result) (stray_row c.args.stray) =
+    let a = c.args in
+    let number = behind _ _ _ c.append-len.ensures c.decimal-len.ensures in
+    holds _ _ (behind _ _ _ number c.push-len.ensures) (omega (arith, stray_short a.stray (omega arith))) in
+    sym (whole).room
 
 pub lay-requires : goal.lay-requires
-lay-requires c = stands (whole c.before.before)
+unfolding stray_row
+lay-requires c =
+    let whole : Holds (text_of c.push-len.new.text c.push-len.result) (stray_row c.args.stray) =
+    let a = c.args in
+    let number = behind _ _ _ c.append-len.ensures c.decimal-len.ensures in
+    holds _ _ (behind _ _ _ number c.push-len.ensures) (omega (arith, stray_short a.stray (omega arith))) in
+    stands (whole)
 
 pub returns : goal.returns
+unfolding stray_row
 returns c =
-    row_laid (whole c.before.before.before.before.before) (entry c.before.before.before.before.before).args.out.now c.lay.ensures
+    let whole : Holds (text_of c.push-len.new.text c.push-len.result) (stray_row c.args.stray) =
+    let a = c.args in
+    let number = behind _ _ _ c.append-len.ensures c.decimal-len.ensures in
+    holds _ _ (behind _ _ _ number c.push-len.ensures) (omega (arith, stray_short a.stray (omega arith))) in
+    row_laid (whole) c.args.out.now c.lay.ensures

@@ -1,0 +1,19 @@
+-- `takeover::with_more_places` meets its contract. The loop's invariant: the bytes copied so far, and zeros behind all that are to be.
+use mathlib.Core.Path.{◌≡◌, refl, ap, ap₂, sym, ◌∙◌, subst}
+use mathlib.Core.List.{◌++◌}
+use Prim.Native.Nat.{◌-◌, ◌≤◌}
+use native.Mathlib.Omega.{arith}
+use lib.ListN.{length, take, drop, get_or, replicate, length-map, length-set, take-append-drop}
+use lib.Seq.{take_all, drop-set-lt}
+use Rattle.lent_buffer.proofs.CopyLaws.{copy_step}
+use Rattle.line.specs.Readers.{reader_with}
+use Rattle.line_rules.specs.Line.{places}
+use Rattle.takeover.specs.TakingOver.{kept_places}
+use Rattle.takeover.proofs.with_more_places.Given as goal
+
+abbrev pub invariant-loop-at : goal.invariant-loop-at
+invariant-loop-at l =
+    (l.at ≤ kept_places) × (length l.held ≡ places) × (take l.at l.held ≡ take l.at l.before) × (drop kept_places l.held ≡ replicate (places - kept_places) 0)
+
+abbrev pub decreases-loop-at : goal.decreases-loop-at
+decreases-loop-at l = kept_places - l.at
