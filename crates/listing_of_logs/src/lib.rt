@@ -10,10 +10,10 @@ ghost use Rattle.log_rules.specs.Good.{telegram_in, telegrams_of, is_good};
 ghost use Rattle.listing_rules.specs.Answers.{row_answer};
 ghost use Rattle.listing_of_logs.specs.LogPages.{row_of, rows_from, block_rows, offset_of, verified_row, page_room};
 
-use listing::log_rows::{bad_row, block_row, good_row, slot_row};
-use listing::{LONGEST_LOG_ROW, RowAnswer};
 use delivery_log::block::is_good;
 use delivery_log::{BLOCK_SIZE, COUNT_PLACE, SLOT_SIZE, SLOTS};
+use listing::log_rows::{bad_row, block_row, good_row, slot_row};
+use listing::{LONGEST_LOG_ROW, RowAnswer};
 use record::RecordAnswer;
 use refusals::{BLOCK_BAD, BUFFER_SHORT};
 

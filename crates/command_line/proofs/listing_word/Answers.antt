@@ -1,0 +1,27 @@
+-- `command_line::listing_word` meets its contract: the first option that the word is, or what is left.
+use mathlib.Core.Path.{sym, ◌∙◌}
+use borrow.Author.Rules.{rules}
+use Rattle.command_line.proofs.listing_word.Goals as goal
+
+pub returns-then-is_same : goal.returns-then-is_same
+returns-then-is_same c = rw (sym c.is_same.ensures ∙ c.if-is_same.true)
+
+pub returns-then-is_same-2 : goal.returns-then-is_same-2
+returns-then-is_same-2 c = rw (sym c.is_same.ensures ∙ c.if-is_same.false, sym c.is_same-2.ensures ∙ c.if-is_same-2.true)
+
+pub returns-then-is_same-3 : goal.returns-then-is_same-3
+returns-then-is_same-3 c =
+    rw (
+      sym c.is_same.ensures ∙ c.if-is_same.false,
+      sym c.is_same-2.ensures ∙ c.if-is_same-2.false,
+      sym c.is_same-3.ensures ∙ c.if-is_same-3.true,
+    )
+
+pub returns : goal.returns
+returns c =
+    rw (
+      sym c.is_same.ensures ∙ c.if-is_same.false,
+      sym c.is_same-2.ensures ∙ c.if-is_same-2.false,
+      sym c.is_same-3.ensures ∙ c.if-is_same-3.false,
+    )
+    c.other_word.ensures

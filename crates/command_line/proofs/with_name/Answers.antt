@@ -1,0 +1,9 @@
+-- `command_line::with_name` meets its contract.
+use borrow.Author.Rules.{rules}
+use Rattle.command_line.proofs.with_name.Goals as goal
+
+pub returns-in-Input : goal.returns-in-Input
+returns-in-Input c = rw c.in-Input.is
+
+pub returns-in-File : goal.returns-in-File
+returns-in-File c = rw c.in-File.is
