@@ -33,9 +33,6 @@ returns-then-not-is_plain c =
     rw (first_is held len size (omega arith), eq-eqb _ _ c.if-held-ne-STX.false)
     (ap (λ p. p && all_plain (drop (at + 1) (take len held))) (sym bad) ∙ sym here ∙ c.loop-at.invariant.1)
 
-pub overflow_add-at : goal.overflow_add-at
-overflow_add-at c = omega (arith, ltb-true c.loop-at.at places c.if-at-lt-PLACES.true-raw)
-
 pub loop-at-smaller : goal.loop-at-smaller
 loop-at-smaller c = omega (arith, ltb-true c.loop-at.at places c.if-at-lt-PLACES.true-raw)
 

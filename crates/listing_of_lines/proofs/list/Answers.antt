@@ -32,9 +32,6 @@ slice_bounds-row_for-count c = c.loop-taken.invariant.laying.fits
 pub slice_bounds-row_for-start : goal.slice_bounds-row_for-start
 slice_bounds-row_for-start c = c.loop-taken.invariant.laying.fits
 
-pub enum_known-n : goal.enum_known-n
-enum_known-n c = c.in-Written.in-Written-own.keys1
-
 pub overflow_add-used : goal.overflow_add-used
 overflow_add-used c =
     let next =

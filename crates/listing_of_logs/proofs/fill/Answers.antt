@@ -13,9 +13,6 @@ use Rattle.listing_of_logs.proofs.fill.Goals as goal
 pub bounds-block-480 : goal.bounds-block-480
 bounds-block-480 c = omega (arith, good_length c.args.block.now c.requires.0)
 
-pub overflow_cast-count : goal.overflow_cast-count
-overflow_cast-count c = omega (arith, c.shared_slice_known-2-1.given 480)
-
 pub loop-at-init : goal.loop-at-init
 loop-at-init c =
     let a = c.args in
@@ -83,9 +80,6 @@ loop-at-preserved c =
     let row = c.lay_row in
     one_more a.number a.block.now l.page _ l.at l.used l.invariant (omega arith) c.loop-at-test.true
     _ (slot_at a.block.now l.at) (row_answer row.result) row.new.out row.ensures _ (ap row_answer c.in-Written.is)
-
-pub enum_told-1 : goal.enum_told-1
-enum_told-1 c = c.in-Refused.in-Refused-own.keys2
 
 pub shape_of-page-in-Refused : goal.shape_of-page-in-Refused
 shape_of-page-in-Refused c =

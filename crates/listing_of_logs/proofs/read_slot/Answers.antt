@@ -7,9 +7,6 @@ use Rattle.listing_of_logs.proofs.RowLaws.{slot_part}
 use borrow.Author.Rules.{rules}
 use Rattle.listing_of_logs.proofs.read_slot.Goals as goal
 
-pub overflow_cast-size : goal.overflow_cast-size
-overflow_cast-size c = omega (arith, c.shared_slice_known-2-1.given 0)
-
 pub overflow_add-size : goal.overflow_add-size
 overflow_add-size c = omega (arith, c.shared_slice_known-2-1.given 0)
 

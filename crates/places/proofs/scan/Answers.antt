@@ -18,9 +18,6 @@ loop-at-init c = onward_all _ _
 pub bounds-row-at : goal.bounds-row-at
 bounds-row-at c = omega arith
 
-pub overflow_cast-slot : goal.overflow_cast-slot
-overflow_cast-slot c = omega (arith, c.shared_slice_known-in-loop-at-1.given c.loop-at.at)
-
 pub bounds-bytes-at : goal.bounds-bytes-at
 bounds-bytes-at c = c.if-at-bytes.true
 
