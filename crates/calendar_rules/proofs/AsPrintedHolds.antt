@@ -1,16 +1,16 @@
 -- The calendar is as it is printed, computed from the definitions. Assumes nothing.
 use mathlib.Core.Path.{◌≡◌, refl, ap}
-use mathlib.Core.Bool.{Bool, true, false, cond, not, ◌||◌, ◌&&◌}
+use mathlib.Core.Bool.{Bool, true, false, not, ◌||◌, ◌&&◌}
 use native.Mathlib.Omega.{arith}
-use Prim.Native.Nat.{ℕ, ◌+◌, ◌*◌, ◌/◌, ◌%◌, ◌<◌, ◌≤◌}
-use lib.Dec.{eqb, leb}
+use Prim.Native.Nat.{ℕ, ◌+◌, ◌*◌, ◌/◌, ◌%◌, ◌≤◌}
+use lib.Dec.{eqb}
 use borrow.Author.Tests.{eq-eqb, ne_eqb, le-leb, eqb-true}
 use Rattle.refusals.specs.Refusals.{unless}
 use Rattle.calendar_rules.specs.Calendar.{is_leap, month_length, month_in_range, date_in_range, day_exists, date_refusal, month_start, starts_from}
 use Rattle.calendar_rules.specs.Calendar.{month_starts, day_of, day_number, seek, month_holding, date_at, date_of, day_after, is_last_day, next_day}
 use Rattle.calendar_rules.specs.TimeOfDay.{time_in_range, time_refusal, seconds_of, second_of_day, time_after, is_last_second, next_second}
 use Rattle.calendar_rules.specs.DayOfYear.{days_of_months, year_day, day_of_year}
-use Rattle.calendar_rules.specs.AsPrinted.{TheMonthStartsAreAsPrinted, TheCalendarIsAsPrinted, TheMonthsOfEveryYear, lengths_in, leap_year, other_year, four_from, TheDaysOfTheYearAreAsPrinted}
+use Rattle.calendar_rules.specs.AsPrinted.{TheMonthStartsAreAsPrinted, TheCalendarIsAsPrinted, TheMonthsOfEveryYear, lengths_in, leap_year, other_year, TheDaysOfTheYearAreAsPrinted}
 
 pub month_starts_as_printed : TheMonthStartsAreAsPrinted
 unfolding is_leap month_length starts_from month_starts

@@ -1,11 +1,10 @@
 -- Laws of the time of day: the next second. Assumes nothing.
 use mathlib.Core.Path.{◌≡◌, refl}
-use mathlib.Core.Bool.{Bool, true, false, not, cond, and-false}
+use mathlib.Core.Bool.{Bool, true, false, cond, and-false}
 use Prim.Native.Nat.{ℕ, ◌+◌, ◌*◌, ◌≤◌, ◌<◌}
 use native.Mathlib.Omega.{arith}
 use lib.Dec.{ltb}
 use borrow.Author.Tests.{le-leb, ltb-true, ltb-false, eq-eqb, ne_eqb, not-false}
-use Rattle.refusals.specs.Refusals.{◌when◌}
 use Rattle.refusals.proofs.Laws.{both, when_none}
 use Rattle.calendar_rules.specs.TimeOfDay.{time_in_range, time_refusal, seconds_of, time_after, is_last_second}
 use Rattle.calendar_rules.specs.declared.time.Time.{Time}

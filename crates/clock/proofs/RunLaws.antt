@@ -1,10 +1,10 @@
 -- Laws of a clock that runs: each step adds one second to its count, but from a second 60, up to the end of the calendar. Assumes nothing.
 use mathlib.Core.Path.{◌≡◌, refl, ap, sym, ◌∙◌}
-use mathlib.Core.Bool.{Bool, true, false, cond, ◌&&◌}
+use mathlib.Core.Bool.{Bool, true, false, cond}
 use Prim.Native.Nat.{ℕ, zero, suc, ◌+◌, ◌*◌, ◌<◌, ◌≤◌}
 use native.Mathlib.Omega.{arith}
-use lib.Dec.{ltb, eqb}
-use borrow.Author.Tests.{ltb-true, ltb-false, eqb-true}
+use lib.Dec.{ltb}
+use borrow.Author.Tests.{ltb-true, ltb-false}
 use Rattle.refusals.specs.Refusals.{Outcome, done, refused, unless}
 use Rattle.refusals.proofs.Laws.{both, does}
 use Rattle.calendar_rules.specs.Calendar.{day_of, is_last_day, day_after}

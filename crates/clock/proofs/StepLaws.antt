@@ -16,7 +16,6 @@ use Rattle.record_rules.specs.Rule.{refusal_of, carries_date}
 use Rattle.record_rules.specs.Next.{record_after, is_last_of_calendar, next_second_of}
 use Rattle.clock.specs.declared.Clock.{Clock}
 use Rattle.clock.specs.declared.StepAnswer.TheVariants as answer
-use Rattle.clock.specs.declared.Stepped.{Stepped}
 use Rattle.clock.specs.Stepping.{clock_second, with_record, stepped_by, step_of}
 use Rattle.clock.specs.Answers.{step_answer}
 use Rattle.clock.specs.Running.{ARefusedClockIsUnchanged}

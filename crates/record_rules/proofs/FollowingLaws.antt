@@ -29,7 +29,7 @@ use Rattle.record_rules.specs.Sixty.{is_sixty, at59, ends_utc_month, takes_sixty
 use Rattle.record_rules.specs.Rule.{status_allowed, weekday_allowed, refusal_of, is60}
 use Rattle.record_rules.specs.Next.{weekday_after, record_after, is_last_of_calendar, next_second_of}
 use Rattle.record_rules.specs.Utc.{count_of, utc_seconds}
-use Rattle.record_rules.specs.Following.{with59, time_of, ASixtyIsAcceptedExactlyThen, ASixtyGoesTo00, TheSameRecordWith59Decides, seconds_on}
+use Rattle.record_rules.specs.Following.{time_of, ASixtyIsAcceptedExactlyThen, ASixtyGoesTo00, TheSameRecordWith59Decides, seconds_on}
 use Rattle.record_rules.specs.Following.{ASixtySharesItsFollowersNumber, OneSixtyHasNoFollower, WithoutAFollowerItHasNoNumber, NoCountIsBehindTheCalendar}
 use Rattle.record_rules.proofs.SixtyLaws.{same, behind_means, good_at_59, last_of_day, last_date, last_number, takes, sixty_means, marked_or_local}
 use Rattle.record_rules.proofs.RuleLaws.{good, not_refused, good_up_to_59, range_allowed, range_alone, taken_allowed, sixty_taken, alone_sixty}

@@ -4,7 +4,6 @@ use borrow.Author.Tests.{le-leb, lt-leb}
 use Rattle.refusals.specs.Refusals.{unless}
 use Rattle.calendar_rules.specs.Calendar.{year_at, month_at, month_holding, date_at, date_of}
 use Rattle.calendar_rules.proofs.Months.{month_28_to_31, holding_within, holding_from, holding_to}
-use borrow.Author.Rules.{rules}
 use Rattle.calendar.proofs.date.date_of.Goals as goal
 
 pub returns-then-day-ge36525 : goal.returns-then-day-ge36525

@@ -1,7 +1,6 @@
 -- `calendar::date::date_refusal` meets its contract.
 use mathlib.Core.Path.{sym, ◌∙◌}
-use borrow.Author.Rules.{rules}
-use borrow.Author.Tests.{not-true, not-false, le-leb, lt-leb}
+use borrow.Author.Tests.{le-leb, lt-leb}
 use Rattle.calendar_rules.specs.Calendar.{date_refusal, date_in_range, day_exists}
 use Rattle.calendar.proofs.date.date_refusal.Goals as goal
 

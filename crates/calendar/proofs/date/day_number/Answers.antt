@@ -1,7 +1,6 @@
 -- `calendar::date::day_number` meets its contract: a good date's month stands in the table.
 use mathlib.Core.Path.{sym, ◌∙◌}
 use native.Mathlib.Omega.{arith}
-use borrow.Author.Rules.{rules}
 use Rattle.refusals.specs.Refusals.{unless}
 use Rattle.refusals.proofs.Laws.{refuses}
 use Rattle.calendar_rules.specs.Calendar.{day_number, day_of, month_index}

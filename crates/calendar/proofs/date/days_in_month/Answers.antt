@@ -1,7 +1,5 @@
 -- `calendar::date::days_in_month` meets its contract.
 use mathlib.Core.Path.{sym, ap, ◌∙◌}
-use borrow.Author.Rules.{rules}
-use borrow.Author.Tests.{not-true, not-false}
 use Rattle.refusals.specs.Refusals.{done, unless}
 use Rattle.calendar.proofs.date.days_in_month.Goals as goal
 

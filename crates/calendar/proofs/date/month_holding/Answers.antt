@@ -1,9 +1,6 @@
 -- `calendar::date::month_holding` meets its contract. The loop's invariant: the day lies before the start of the month behind
 -- `month`. The measure is `month`.
-use Prim.Native.Nat.{suc, ◌+◌, ◌*◌, ◌<◌}
 use native.Mathlib.Omega.{arith}
-use borrow.Author.Rules.{rules}
-use Rattle.calendar_rules.specs.Calendar.{month_start}
 use Rattle.calendar_rules.proofs.TableRows.{year_to, not_january, month_before, month_found}
 use Rattle.calendar.proofs.date.month_holding.Goals as goal
 

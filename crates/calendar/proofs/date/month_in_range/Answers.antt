@@ -1,7 +1,5 @@
 -- `calendar::date::month_in_range` meets its contract.
 use mathlib.Core.Path.{sym, ◌∙◌}
-use borrow.Author.Rules.{rules}
-use borrow.Author.Tests.{not-true, not-false}
 use Rattle.calendar_rules.specs.Calendar.{month_in_range}
 use Rattle.calendar.proofs.date.month_in_range.Goals as goal
 

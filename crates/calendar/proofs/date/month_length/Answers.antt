@@ -1,7 +1,6 @@
 -- `calendar::date::month_length` meets its contract.
 use mathlib.Core.Path.{sym, ◌∙◌}
 use mathlib.Core.Logic.{⊎_elim, inl, inr}
-use borrow.Author.Rules.{rules}
 use borrow.Author.Tests.{ne_eqb}
 use Rattle.calendar_rules.specs.Calendar.{month_length}
 use Rattle.calendar.proofs.date.month_length.Goals as goal

@@ -1,10 +1,9 @@
 -- `calendar::time::next_second` meets its contract.
 use mathlib.Core.Path.{sym, ◌∙◌}
-use borrow.Author.Tests.{not-true, not-false, lt-ltb, le-ltb}
+use borrow.Author.Tests.{lt-ltb, le-ltb}
 use Rattle.refusals.specs.Refusals.{unless}
 use Rattle.calendar_rules.specs.TimeOfDay.{time_refusal, time_after, next_second}
 use Rattle.calendar_rules.proofs.Times.{good_range, not_last_second, not_last_minute, not_last_hour, last_second}
-use borrow.Author.Rules.{rules}
 use Rattle.calendar.proofs.time.next_second.Goals as goal
 
 pub returns-then-not-time_in_range : goal.returns-then-not-time_in_range

@@ -1,9 +1,7 @@
 -- `calendar::time::second_of_day` meets its contract.
 use mathlib.Core.Path.{sym, ◌∙◌}
-use borrow.Author.Tests.{not-true, not-false}
 use Rattle.refusals.specs.Refusals.{unless}
 use Rattle.calendar_rules.specs.TimeOfDay.{time_refusal, seconds_of, second_of_day}
-use borrow.Author.Rules.{rules}
 use Rattle.calendar.proofs.time.second_of_day.Goals as goal
 
 pub returns-then-not-time_in_range : goal.returns-then-not-time_in_range

@@ -1,7 +1,6 @@
 -- `calendar::year::day_of_year` meets its contract: the year of a date with a day number stands in the table.
 use mathlib.Core.Path.{sym, ap, ◌∙◌}
 use native.Mathlib.Omega.{arith}
-use borrow.Author.Rules.{rules}
 use Rattle.refusals.specs.Refusals.{done}
 use Rattle.refusals.proofs.Laws.{refuses, was_refused, refused_some}
 use Rattle.calendar_rules.specs.Answers.{day_answer}

@@ -2,7 +2,6 @@
 use mathlib.Core.Path.{sym, ap, ◌∙◌}
 use Rattle.record_rules.specs.Answers.{record_answer}
 use Rattle.clock.proofs.StepLaws.{second_refused, no_date, goes_on}
-use borrow.Author.Rules.{rules}
 use Rattle.clock.proofs.Clock.step.Goals as goal
 
 pub returns-in-Refused : goal.returns-in-Refused

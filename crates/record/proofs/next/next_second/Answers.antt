@@ -6,7 +6,6 @@ use Rattle.calendar_rules.specs.Answers.{date_answer, next_second_answer}
 use Rattle.record_rules.specs.Next.{next_second_of}
 use Rattle.record_rules.proofs.RuleLaws.{good, good_up_to_59, alone_up_to_59}
 use Rattle.record_rules.proofs.NextLaws.{same_day, next_day_law, calendar_ends, time_goes_on, goes_on}
-use borrow.Author.Rules.{rules}
 use Rattle.record.proofs.next.next_second.Goals as goal
 
 pub returns-then-refused-ne-NONE : goal.returns-then-refused-ne-NONE

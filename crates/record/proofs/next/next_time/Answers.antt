@@ -1,7 +1,6 @@
 -- `record::next::next_time` meets its contract.
 use mathlib.Core.Path.{ap, ◌∙◌}
 use Rattle.calendar_rules.specs.TimeOfDay.{next_second}
-use borrow.Author.Rules.{rules}
 use Rattle.record.proofs.next.next_time.Goals as goal
 
 pub returns : goal.returns

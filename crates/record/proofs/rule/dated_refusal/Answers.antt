@@ -1,12 +1,11 @@
 -- `record::rule::dated_refusal` meets its contract.
 use mathlib.Core.Path.{sym, ap, ◌∙◌}
-use borrow.Author.Tests.{not-true, not-false, eq-eqb, ne_eqb}
+use borrow.Author.Tests.{eq-eqb, ne_eqb}
 use Rattle.refusals.proofs.Laws.{was_done, was_refused, refused_some, else_some}
 use Rattle.calendar_rules.specs.Answers.{day_answer}
 use Rattle.calendar_rules.specs.Calendar.{day_number, day_of, date_refusal, weekday_of}
 use Rattle.record_rules.specs.Rule.{dated_refusal, weekday_agrees}
 use Rattle.record_rules.proofs.RuleLaws.{date_decides}
-use borrow.Author.Rules.{rules}
 use Rattle.record.proofs.rule.dated_refusal.Goals as goal
 
 pub returns-then-not-status_allowed : goal.returns-then-not-status_allowed

@@ -1,5 +1,4 @@
 -- `record::rule::refusal` meets its contract.
-use borrow.Author.Rules.{rules}
 use Rattle.record.proofs.rule.refusal.Goals as goal
 
 pub returns-in-Dated : goal.returns-in-Dated

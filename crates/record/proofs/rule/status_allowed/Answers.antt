@@ -1,7 +1,6 @@
 -- `record::rule::status_allowed` meets its contract.
 use mathlib.Core.Path.{sym, ◌∙◌}
 use Rattle.record_rules.specs.Rule.{status_allowed}
-use borrow.Author.Rules.{rules}
 use Rattle.record.proofs.rule.status_allowed.Goals as goal
 
 pub returns-then-table_of_6021 : goal.returns-then-table_of_6021

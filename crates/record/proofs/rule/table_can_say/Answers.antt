@@ -1,8 +1,6 @@
 -- `record::rule::table_can_say` meets its contract.
 use mathlib.Core.Path.{sym, ◌∙◌}
-use borrow.Author.Tests.{not-true, not-false}
 use Rattle.record_rules.specs.Rule.{table_can_say}
-use borrow.Author.Rules.{rules}
 use Rattle.record.proofs.rule.table_can_say.Goals as goal
 
 pub returns-then-not-is_crystal_or_radio : goal.returns-then-not-is_crystal_or_radio

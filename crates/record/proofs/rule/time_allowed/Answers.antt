@@ -1,7 +1,6 @@
 -- `record::rule::time_allowed` meets its contract.
 use mathlib.Core.Path.{sym, ◌∙◌}
 use Rattle.record_rules.specs.Rule.{time_allowed}
-use borrow.Author.Rules.{rules}
 use Rattle.record.proofs.rule.time_allowed.Goals as goal
 
 pub returns-then-time_in_range : goal.returns-then-time_in_range

@@ -1,7 +1,6 @@
 -- `record::rule::time_alone_refusal` meets its contract.
 use mathlib.Core.Path.{sym, ◌∙◌}
 use Rattle.record_rules.specs.Rule.{time_alone_allowed, time_alone_refusal}
-use borrow.Author.Rules.{rules}
 use Rattle.record.proofs.rule.time_alone_refusal.Goals as goal
 
 pub returns-then-time_in_range : goal.returns-then-time_in_range

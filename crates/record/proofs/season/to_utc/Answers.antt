@@ -3,7 +3,6 @@ use mathlib.Core.Path.{sym}
 use borrow.Author.Tests.{lt-ltb, le-ltb, le-leb, lt-leb}
 use Rattle.refusals.specs.Refusals.{unless}
 use Rattle.record_rules.specs.Season.{to_utc}
-use borrow.Author.Rules.{rules}
 use Rattle.record.proofs.season.to_utc.Goals as goal
 
 pub returns-then-local-shift : goal.returns-then-local-shift

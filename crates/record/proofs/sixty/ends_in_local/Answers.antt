@@ -1,7 +1,6 @@
 -- `record::sixty::ends_in_local` meets its contract.
 use mathlib.Core.Path.{◌∙◌}
 use borrow.Author.Tests.{eq-eqb, ne_eqb}
-use borrow.Author.Rules.{rules}
 use Rattle.record_rules.specs.SixtyByFields.{ends_in_local}
 use Rattle.record.proofs.sixty.ends_in_local.Goals as goal
 

@@ -1,7 +1,5 @@
 -- `record::sixty::is_taken` meets its contract: it asks for the fields, which say the same.
 use mathlib.Core.Path.{sym, ap, ◌∙◌}
-use borrow.Author.Tests.{not-true, not-false}
-use borrow.Author.Rules.{rules}
 use Rattle.calendar_rules.specs.Answers.{days_answer}
 use Rattle.record_rules.specs.SixtyByFields.{sixty_by_fields}
 use Rattle.record_rules.proofs.SixtyLaws.{month_told, month_refused, fields_say_the_same}

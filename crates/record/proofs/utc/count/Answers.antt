@@ -3,7 +3,6 @@ use mathlib.Core.Path.{sym, ap, ◌∙◌}
 use Rattle.refusals.specs.Refusals.{after}
 use Rattle.record_rules.specs.Answers.{record_answer}
 use Rattle.record_rules.specs.Utc.{own_seconds}
-use borrow.Author.Rules.{rules}
 use Rattle.record.proofs.utc.count.Goals as goal
 
 pub returns-in-Refused : goal.returns-in-Refused

@@ -1,7 +1,6 @@
 -- `record::utc::in_utc` meets its contract.
 use mathlib.Core.Path.{sym, ap, ◌∙◌}
 use Rattle.record_rules.specs.Moment.{in_utc}
-use borrow.Author.Rules.{rules}
 use Rattle.record.proofs.utc.in_utc.Goals as goal
 
 pub returns-in-Local : goal.returns-in-Local

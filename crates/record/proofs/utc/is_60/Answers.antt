@@ -1,7 +1,6 @@
 -- `record::utc::is_60` meets its contract.
 use mathlib.Core.Path.{sym, ap}
 use Rattle.record_rules.specs.Rule.{is60}
-use borrow.Author.Rules.{rules}
 use Rattle.record.proofs.utc.is_60.Goals as goal
 
 pub returns-in-Dated : goal.returns-in-Dated

@@ -5,7 +5,6 @@ use Rattle.refusals.specs.Refusals.{done}
 use Rattle.calendar_rules.specs.Answers.{day_answer, second_answer}
 use Rattle.calendar_rules.proofs.Laws.{day_number_bound, second_bound}
 use Rattle.record_rules.specs.Moment.{moment_of}
-use borrow.Author.Rules.{rules}
 use Rattle.record.proofs.utc.moment.Goals as goal
 
 pub overflow_mul-day : goal.overflow_mul-day

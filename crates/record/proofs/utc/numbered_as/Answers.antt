@@ -2,7 +2,6 @@
 use mathlib.Core.Path.{sym, ◌∙◌}
 use Rattle.refusals.proofs.Laws.{refuses, does}
 use Rattle.record_rules.specs.Utc.{numbered_as}
-use borrow.Author.Rules.{rules}
 use Rattle.record.proofs.utc.numbered_as.Goals as goal
 
 pub returns-then-is_60 : goal.returns-then-is_60

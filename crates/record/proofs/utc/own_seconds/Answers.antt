@@ -1,7 +1,6 @@
 -- `record::utc::own_seconds` meets its contract.
 use mathlib.Core.Path.{sym, ap, ◌∙◌}
 use Rattle.record_rules.specs.Utc.{own_seconds}
-use borrow.Author.Rules.{rules}
 use Rattle.record.proofs.utc.own_seconds.Goals as goal
 
 pub returns-in-Dated : goal.returns-in-Dated

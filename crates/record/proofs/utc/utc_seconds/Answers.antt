@@ -3,7 +3,6 @@ use mathlib.Core.Path.{sym, ap, ◌∙◌}
 use Rattle.record_rules.specs.Answers.{count_answer}
 use Rattle.record_rules.specs.Utc.{count_of, utc_seconds}
 use Rattle.record_rules.proofs.UtcLaws.{utc_refused, time_has_no_count, utc_of_count}
-use borrow.Author.Rules.{rules}
 use Rattle.record.proofs.utc.utc_seconds.Goals as goal
 
 pub returns-in-Refused : goal.returns-in-Refused
