@@ -115,8 +115,8 @@ pub(crate) fn month_starts(year: u16) -> [u16; 12]
 
 // Behind all rows, where no year of the calendar comes.
 fn no_row(year: u16) -> [u16; 12]
-    requires { none_of 100 year × (1980 ≤ year) × (year ≤ 2079) }
-    ensures { IsRow year result }
+    requires { none_of 100 year }
+    ensures { 1980 ≤ year → year ≤ 2079 → IsRow year result }
 {
     [0; 12]
 }

@@ -13,7 +13,7 @@ use Rattle.record_rules.specs.declared.Status.{Status}
 use Rattle.record_rules.specs.Rule.{crystal_or_radio, table_can_say, table_of6021, status_allowed}
 use Rattle.bits.specs.Bits.{bit}
 use Rattle.layouts_rules.specs.Coding.{b0, reception_at, reception_number, is_crystal, status_in6021, status_in5500, status_out6021, status_out5500}
-use Rattle.layouts_rules.specs.Coding.{status_in, status_out, weekday_in, weekday_out, turning_year, full_year, has_full_year, century_out, number}
+use Rattle.layouts_rules.specs.Coding.{status_in, status_out, weekday_in, weekday_out, turning_year, full_year, has_full_year, century_out}
 use Rattle.layouts_rules.proofs.Bits.{bit_small, bit_back, number_back, reception_small, reception_back, reception_number_back, crystal_back, crystal_bit_back}
 
 -- two digits and their number

@@ -1,8 +1,6 @@
 -- `board::is_offered` meets its contract.
 use mathlib.Core.Path.{sym, ◌∙◌}
-use borrow.Author.Tests.{not-true, not-false}
 use Rattle.board_rules.specs.Settings.{is_offered}
-use borrow.Author.Rules.{rules}
 use Rattle.board.proofs.is_offered.Goals as goal
 
 pub returns-then-not-is_either : goal.returns-then-not-is_either

@@ -1,7 +1,6 @@
 -- `board::rate_at` meets its contract.
 use mathlib.Core.Path.{◌∙◌}
 use native.Mathlib.Nat.{one-mul}
-use borrow.Author.Rules.{rules}
 use Rattle.board.proofs.rate_at.Goals as goal
 
 pub returns : goal.returns

@@ -1,11 +1,9 @@
 -- `board::row_of` meets its contract. The loop's invariant: the rate is in none of the rows passed, so its row is counted on from them.
 -- The measure is how many rows are left.
-use mathlib.Core.Path.{◌≡◌, sym}
+use mathlib.Core.Path.{◌≡◌}
 use Prim.Native.Nat.{◌+◌, ◌-◌, ◌≤◌}
-use native.Mathlib.Omega.{arith}
 use lib.ListN.{drop}
 use Rattle.board_rules.specs.Rates.{rates, row_in, rate_row}
-use Rattle.board_rules.proofs.RateLaws.{row_here, row_behind}
 use Rattle.board.proofs.row_of.Given as goal
 
 abbrev pub invariant-loop-row : goal.invariant-loop-row

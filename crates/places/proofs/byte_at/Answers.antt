@@ -2,7 +2,6 @@
 use mathlib.Core.Path.{sym, ap, ◌≡◌}
 use Rattle.places_rules.specs.Places.{byte_at}
 use Rattle.places_rules.proofs.Numbers.{is_fixed, by_digit}
-use borrow.Author.Rules.{rules}
 use Rattle.places.proofs.byte_at.Goals as goal
 
 pub returns-then-at-lt-FIRST_DECIMAL : goal.returns-then-at-lt-FIRST_DECIMAL

@@ -1,7 +1,6 @@
 -- `places::code_character` meets its contract.
 use borrow.Author.Tests.{lt-ltb, le-ltb}
 use Rattle.places_rules.specs.Places.{code_character}
-use borrow.Author.Rules.{rules}
 use Rattle.places.proofs.code_character.Goals as goal
 
 pub returns-then-low-lt10 : goal.returns-then-low-lt10

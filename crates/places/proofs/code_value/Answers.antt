@@ -3,7 +3,6 @@ use native.Mathlib.Omega.{arith}
 use mathlib.Core.Path.{sym, ◌∙◌}
 use Rattle.places_rules.specs.Places.{code_value}
 use Rattle.places_rules.proofs.Characters.{decimal_bounds, capital_bounds}
-use borrow.Author.Rules.{rules}
 use Rattle.places.proofs.code_value.Goals as goal
 
 pub overflow_sub-result : goal.overflow_sub-result

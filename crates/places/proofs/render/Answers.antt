@@ -3,9 +3,7 @@ use mathlib.Core.Path.{refl, ap₂}
 use lib.ListN.{length-set}
 use borrow.Author.Tests.{ltb-true, ltb-false}
 use mathlib.Core.Path.{◌≡◌, ◌∙◌, ap}
-use Prim.Native.Nat.{◌-◌, ◌≤◌}
 use native.Mathlib.Omega.{arith}
-use borrow.Author.Rules.{rules}
 use lib.ListN.{length, set}
 use Rattle.places_rules.proofs.Rendering.{laid, laid_none, laid_next, laid_row, laid_out}
 use Rattle.places.proofs.render.Goals as goal

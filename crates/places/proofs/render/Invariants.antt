@@ -1,13 +1,8 @@
 -- `places::render` meets its contract. The loop's invariant: the first `at` bytes are laid over the buffer.
-use mathlib.Core.Path.{refl, ap₂}
-use lib.ListN.{length-set}
-use borrow.Author.Tests.{ltb-true, ltb-false}
-use mathlib.Core.Path.{◌≡◌, ◌∙◌, ap}
+use mathlib.Core.Path.{◌≡◌}
 use Prim.Native.Nat.{◌-◌, ◌≤◌}
-use native.Mathlib.Omega.{arith}
-use borrow.Author.Rules.{rules}
-use lib.ListN.{length, set}
-use Rattle.places_rules.proofs.Rendering.{laid, laid_none, laid_next, laid_row, laid_out}
+use lib.ListN.{length}
+use Rattle.places_rules.proofs.Rendering.{laid}
 use Rattle.places.proofs.render.Given as goal
 
 abbrev pub invariant-loop-at : goal.invariant-loop-at

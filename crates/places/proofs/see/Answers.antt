@@ -6,7 +6,6 @@ use borrow.Author.Tests.{eq-eqb, ne_eqb}
 use Rattle.places_rules.specs.Places.{code_value, kept_at, place_fault}
 use Rattle.places_rules.proofs.Characters.{decimal_bounds, capital_bounds, decimal_value, capital_value}
 use Rattle.places_rules.proofs.Numbers.{is_fixed, is_decimal_place, is_code, by_digit}
-use borrow.Author.Rules.{rules}
 use Rattle.places.proofs.see.Goals as goal
 
 pub returns-then-byte-at : goal.returns-then-byte-at

@@ -3,7 +3,6 @@ use mathlib.Core.Path.{sym}
 use native.Mathlib.Numerals.{add-one}
 use native.Mathlib.Omega.{arith}
 use lib.ListN.{length-set}
-use borrow.Author.Rules.{rules}
 use Rattle.trailer_rules.proofs.TrailerLaws.{exchange_stores, exchange_none}
 use Rattle.trailer.proofs.exchange.Goals as goal
 

@@ -1,6 +1,5 @@
 -- `board::of_6036::read` meets its contract.
 use Rattle.board_rules.specs.Of6036.{parameter_in}
-use borrow.Author.Rules.{rules}
 use Rattle.board.proofs.of_6036.read.Goals as goal
 
 pub returns : goal.returns

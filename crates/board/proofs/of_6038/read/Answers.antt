@@ -1,6 +1,5 @@
 -- `board::of_6038::read` meets its contract.
 use Rattle.board_rules.specs.Of6038.{parameter_in}
-use borrow.Author.Rules.{rules}
 use Rattle.board.proofs.of_6038.read.Goals as goal
 
 pub returns-in-Refused : goal.returns-in-Refused

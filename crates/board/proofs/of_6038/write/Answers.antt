@@ -1,10 +1,8 @@
 -- `board::of_6038::write` meets its contract.
 use mathlib.Core.Path.{sym, ◌∙◌}
-use borrow.Author.Tests.{not-true, not-false}
 use Rattle.refusals.specs.Refusals.{unless}
 use Rattle.board_rules.specs.Of6038.{third_for, fourth_for, switches_for, byte_for}
 use Rattle.board_rules.proofs.SettingLaws.{of_each}
-use borrow.Author.Rules.{rules}
 use Rattle.board.proofs.of_6038.write.Goals as goal
 
 pub returns-then-not-is_offered : goal.returns-then-not-is_offered

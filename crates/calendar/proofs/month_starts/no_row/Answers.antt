@@ -3,4 +3,4 @@ use Rattle.calendar_rules.proofs.TableRows.{no_year_behind}
 use Rattle.calendar.proofs.month_starts.no_row.Goals as goal
 
 pub returns : goal.returns
-returns c = absurd (no_year_behind _ c.requires.0 c.requires.1 c.requires.2)
+returns c = λ from to. absurd (no_year_behind _ c.requires from to)

@@ -1,6 +1,5 @@
 -- `layouts::coding::century_out` meets its contract.
 use mathlib.Core.Path.{sym, ◌∙◌}
-use borrow.Author.Rules.{rules}
 use Rattle.layouts.proofs.coding.century_out.Goals as goal
 
 pub returns-then-has_full_year : goal.returns-then-has_full_year

@@ -1,5 +1,4 @@
 -- `layouts::coding::date_in` meets its contract.
-use borrow.Author.Rules.{rules}
 use Rattle.layouts.proofs.coding.date_in.Goals as goal
 
 pub returns : goal.returns

@@ -3,7 +3,6 @@ use mathlib.Core.Path.{sym, ap}
 use native.Mathlib.Omega.{arith}
 use Rattle.layouts_rules.specs.Coding.{digits_out}
 use Rattle.layouts_rules.proofs.Bits.{century_small}
-use borrow.Author.Rules.{rules}
 use Rattle.layouts.proofs.coding.digits_out.Goals as goal
 
 pub overflow_cast-result : goal.overflow_cast-result

@@ -1,7 +1,6 @@
 -- `layouts::coding::record_in` meets its contract.
 use mathlib.Core.Path.{sym, ap}
 use Rattle.layouts_rules.specs.Coding.{record_in}
-use borrow.Author.Rules.{rules}
 use Rattle.layouts.proofs.coding.record_in.Goals as goal
 
 pub returns-in-Dated : goal.returns-in-Dated

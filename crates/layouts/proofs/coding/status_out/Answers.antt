@@ -1,6 +1,5 @@
 -- `layouts::coding::status_out` meets its contract.
 use mathlib.Core.Path.{sym, ◌∙◌}
-use borrow.Author.Rules.{rules}
 use Rattle.layouts.proofs.coding.status_out.Goals as goal
 
 pub returns-then-table_of_6021 : goal.returns-then-table_of_6021

@@ -1,6 +1,5 @@
 -- `layouts::coding::status_out_6021` meets its contract.
 use Rattle.layouts_rules.specs.Coding.{status_out6021}
-use borrow.Author.Rules.{rules}
 use Rattle.layouts.proofs.coding.status_out_6021.Goals as goal
 
 pub returns : goal.returns

@@ -1,6 +1,5 @@
 -- `layouts::coding::weekday_in` meets its contract.
 use mathlib.Core.Path.{sym, ◌∙◌}
-use borrow.Author.Rules.{rules}
 use Rattle.layouts.proofs.coding.weekday_in.Goals as goal
 
 pub returns-then-table_of_6021 : goal.returns-then-table_of_6021

@@ -1,7 +1,6 @@
 -- `layouts::coding::year_in` meets its contract.
 use mathlib.Core.Path.{sym, ◌∙◌, ap}
 use Rattle.layouts_rules.specs.Coding.{full_year}
-use borrow.Author.Rules.{rules}
 use Rattle.layouts.proofs.coding.year_in.Goals as goal
 
 pub returns-then-has_full_year : goal.returns-then-has_full_year

@@ -3,7 +3,6 @@ use mathlib.Core.Bool.{and-false}
 use native.Mathlib.Omega.{arith}
 use lib.ListN.{get_or-eq_default}
 use borrow.Author.Tests.{eq-eqb, ne_eqb}
-use borrow.Author.Rules.{rules}
 use Rattle.layouts.proofs.rows.by_trailer.Goals as goal
 
 pub returns-then-body-lt8 : goal.returns-then-body-lt8

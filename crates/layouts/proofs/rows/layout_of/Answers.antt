@@ -3,7 +3,6 @@ use mathlib.Core.Path.{ap}
 use borrow.Author.Tests.{ne_eqb}
 use Rattle.refusals.specs.Refusals.{done}
 use Rattle.layouts_rules.specs.Layouts.{layout_of}
-use borrow.Author.Rules.{rules}
 use Rattle.layouts.proofs.rows.layout_of.Goals as goal
 
 pub returns-in-16 : goal.returns-in-16

@@ -1,7 +1,6 @@
 -- `layouts::rows::own_layout` meets its contract.
 use mathlib.Core.Path.{sym, ap}
 use Rattle.layouts_rules.specs.Layouts.{own_layout}
-use borrow.Author.Rules.{rules}
 use Rattle.layouts.proofs.rows.own_layout.Goals as goal
 
 pub returns-in-Dated : goal.returns-in-Dated

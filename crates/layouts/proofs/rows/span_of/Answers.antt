@@ -2,7 +2,6 @@
 use mathlib.Core.Path.{sym, ap, ◌∙◌}
 use Rattle.layouts_rules.specs.declared.Layout.TheVariants as layouts
 use Rattle.layouts_rules.specs.Layouts.{places_of, span_of}
-use borrow.Author.Rules.{rules}
 use Rattle.layouts.proofs.rows.span_of.Goals as goal
 
 pub returns-in-L6021 : goal.returns-in-L6021

@@ -1,5 +1,5 @@
 -- `telegram::read::is_framed` meets its contract.
-use Rattle.std.proofs.Common.{arith, rules, eq-eqb, ne_eqb}
+use Rattle.std.proofs.Common.{arith, eq-eqb, ne_eqb}
 use lib.ListN.{get_or-eq_default}
 use Rattle.telegram.proofs.read.is_framed.Goals as goal
 

@@ -1,5 +1,5 @@
 -- `telegram::read::read` meets its contract.
-use Rattle.std.proofs.Common.{false, sym, refl, ap, ◌∙◌, rules}
+use Rattle.std.proofs.Common.{false, sym, refl, ap, ◌∙◌}
 use Rattle.layouts_rules.specs.Answers.{layout_answer}
 use Rattle.telegram_rules.specs.Reading.{read_of}
 use Rattle.telegram_rules.proofs.ReadLaws.{no_layout, by_body}

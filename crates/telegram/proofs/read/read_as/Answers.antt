@@ -1,5 +1,5 @@
 -- `telegram::read::read_as` meets its contract: each way it ends is a law of the definition.
-use Rattle.std.proofs.Common.{sym, ap, ◌∙◌, arith, rules}
+use Rattle.std.proofs.Common.{sym, ap, ◌∙◌, arith}
 use Rattle.refusals.specs.Refusals.{done}
 use Rattle.record_rules.specs.Rule.{refusal_of}
 use Rattle.layouts_rules.proofs.RowLaws.{span_ends, span_within}

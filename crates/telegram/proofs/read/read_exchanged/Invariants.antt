@@ -1,10 +1,5 @@
 -- `telegram::read::read_exchanged` meets its contract. The loop's invariant: the bytes copied so far.
-use Rattle.std.proofs.Common.{◌≡◌, ◌-◌, ◌≤◌, length, get_or, take, sym, refl, ap, ◌∙◌, subst, arith, length-set, rules}
-use Rattle.lent_buffer.proofs.CopyLaws.{copy_step}
-use Rattle.telegram_rules.proofs.ExchangeLaws.{too_long, copy_read}
-use Rattle.trailer_rules.specs.Trailer.{exchange_at}
-use Rattle.telegram_rules.specs.Reading.{read_of}
-use Rattle.trailer_rules.specs.declared.Order.TheVariants.{Exchanged}
+use Rattle.std.proofs.Common.{◌≡◌, ◌-◌, ◌≤◌, length, take}
 use Rattle.telegram.proofs.read.read_exchanged.Given as goal
 
 abbrev pub invariant-loop-at : goal.invariant-loop-at

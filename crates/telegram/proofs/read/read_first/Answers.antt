@@ -1,5 +1,5 @@
 -- `telegram::read::read_first` meets its contract.
-use Rattle.std.proofs.Common.{◌≡◌, ◌-◌, take, sym, ap, ◌∙◌, arith, take_all, rules}
+use Rattle.std.proofs.Common.{◌≡◌, ◌-◌, take, sym, ap, ◌∙◌, arith, take_all}
 use Rattle.telegram_rules.specs.Reading.{read_of}
 use Rattle.telegram.proofs.read.read_first.Goals as goal
 

@@ -1,5 +1,5 @@
 -- `telegram::read::read_framed` meets its contract.
-use Rattle.std.proofs.Common.{true, not, sym, ap, ◌∙◌, rules}
+use Rattle.std.proofs.Common.{true, not, sym, ap, ◌∙◌}
 use Rattle.layouts_rules.specs.Answers.{layout_answer}
 use Rattle.layouts_rules.specs.Layouts.{layout_of}
 use Rattle.telegram_rules.specs.Reading.{read_body_as}

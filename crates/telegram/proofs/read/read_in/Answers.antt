@@ -1,5 +1,5 @@
 -- `telegram::read::read_in` meets its contract.
-use Rattle.std.proofs.Common.{sym, ap, ◌∙◌, rules}
+use Rattle.std.proofs.Common.{sym, ap, ◌∙◌}
 use Rattle.telegram_rules.specs.Reading.{read_in}
 use Rattle.telegram.proofs.read.read_in.Goals as goal
 

@@ -1,5 +1,5 @@
 -- `telegram::write::as_6021` meets its contract.
-use Rattle.std.proofs.Common.{sym, ap, rules}
+use Rattle.std.proofs.Common.{sym, ap}
 use Rattle.telegram_rules.specs.Writing.{as6021}
 use Rattle.telegram.proofs.write.as_6021.Goals as goal
 

@@ -1,5 +1,5 @@
 -- `telegram::write::judged` meets its contract.
-use Rattle.std.proofs.Common.{sym, ◌∙◌, rules}
+use Rattle.std.proofs.Common.{sym, ◌∙◌}
 use Rattle.refusals.proofs.Laws.{refuses, does}
 use Rattle.telegram.proofs.write.judged.Goals as goal
 

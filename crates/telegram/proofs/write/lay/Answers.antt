@@ -1,5 +1,5 @@
 -- `telegram::write::lay` meets its contract.
-use Rattle.std.proofs.Common.{ap, ◌∙◌, rules}
+use Rattle.std.proofs.Common.{ap, ◌∙◌}
 use Rattle.refusals.specs.Refusals.{done}
 use Rattle.lent_buffer.specs.Laying.{laid}
 use Rattle.telegram_rules.specs.Writing.{telegram_of}

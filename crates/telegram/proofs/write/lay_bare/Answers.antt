@@ -1,5 +1,5 @@
 -- `telegram::write::lay_bare` meets its contract.
-use Rattle.std.proofs.Common.{◌≤◌, false, length, sym, ◌∙◌, ap₂, arith, rules}
+use Rattle.std.proofs.Common.{◌≤◌, false, length, sym, ◌∙◌, ap₂, arith}
 use Rattle.refusals.specs.Refusals.{done}
 use Rattle.lent_buffer.proofs.LayingLaws.{laid_short, laid_fits}
 use Rattle.layouts_rules.proofs.RowLaws.{span_ends, span_within}

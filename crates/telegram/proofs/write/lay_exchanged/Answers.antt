@@ -1,5 +1,5 @@
 -- `telegram::write::lay_exchanged` meets its contract.
-use Rattle.std.proofs.Common.{sym, ap, ◌∙◌, rules}
+use Rattle.std.proofs.Common.{sym, ap, ◌∙◌}
 use Rattle.refusals.specs.Refusals.{done}
 use Rattle.trailer_rules.specs.Trailer.{exchange_at}
 use Rattle.telegram_rules.specs.Answers.{write_answer}

@@ -1,5 +1,5 @@
 -- `telegram::write::lay_framed` meets its contract.
-use Rattle.std.proofs.Common.{ℕ, ◌+◌, ◌-◌, ◌≤◌, true, ◌++◌, length, drop, set, sym, ap, ◌∙◌, ap₂, arith, length-set, rules}
+use Rattle.std.proofs.Common.{ℕ, ◌+◌, ◌-◌, ◌≤◌, true, ◌++◌, length, drop, set, sym, ap, ◌∙◌, ap₂, arith, length-set}
 use borrow.Rule.Slice.PartMut.{put_mid}
 use Rattle.refusals.specs.Refusals.{done}
 use Rattle.lent_buffer.proofs.LayingLaws.{laid_short, laid_fits}

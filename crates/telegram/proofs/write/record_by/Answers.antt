@@ -1,5 +1,4 @@
 -- `telegram::write::record_by` meets its contract.
-use Rattle.std.proofs.Common.{rules}
 use Rattle.telegram.proofs.write.record_by.Goals as goal
 
 pub returns-then-setting : goal.returns-then-setting

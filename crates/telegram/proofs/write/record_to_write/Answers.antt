@@ -1,5 +1,5 @@
 -- `telegram::write::record_to_write` meets its contract.
-use Rattle.std.proofs.Common.{sym, ap, ◌∙◌, rules}
+use Rattle.std.proofs.Common.{sym, ap, ◌∙◌}
 use Rattle.refusals.specs.Refusals.{after}
 use Rattle.record_rules.specs.Answers.{record_answer}
 use Rattle.telegram_rules.specs.Writing.{as6021}

@@ -1,5 +1,5 @@
 -- `telegram::write::span_of` meets its contract.
-use Rattle.std.proofs.Common.{ap, ◌∙◌, rules}
+use Rattle.std.proofs.Common.{ap, ◌∙◌}
 use Rattle.layouts_rules.specs.Layouts.{span_of}
 use Rattle.telegram.proofs.write.span_of.Goals as goal
 

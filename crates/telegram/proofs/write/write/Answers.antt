@@ -1,5 +1,5 @@
 -- `telegram::write::write` meets its contract.
-use Rattle.std.proofs.Common.{sym, ap, ◌∙◌, rules}
+use Rattle.std.proofs.Common.{sym, ap, ◌∙◌}
 use Rattle.lent_buffer.specs.Laying.{laid}
 use Rattle.lent_buffer.proofs.LayingLaws.{laid_refused}
 use Rattle.record_rules.specs.Answers.{record_answer}

@@ -1,5 +1,5 @@
 -- `telegram::several::Several::add` meets its contract: each way it ends is a law of the definition.
-use Rattle.std.proofs.Common.{length, ap, ◌∙◌, arith, rules}
+use Rattle.std.proofs.Common.{length, ap, ◌∙◌, arith}
 use Rattle.lent_buffer.proofs.LayingLaws.{within_done, stands}
 use Rattle.lent_buffer.proofs.TailLaws.{tail_lent, tail_length}
 use Rattle.telegram_rules.specs.Answers.{write_answer}
