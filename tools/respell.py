@@ -44,7 +44,8 @@ def respelled(name):
         return name.replace("-", "_") + "_law"
     if name[0].isupper():
         return "".join(part[:1].upper() + part[1:] for part in name.split("-"))
-    return re.sub(r"(?<=[a-z0-9'_])[A-Z]+", lambda m: ("" if m.string[m.start() - 1] == "_" else "_") + m.group(0).lower(), name.replace("-", "_"))
+    name = re.sub(r"(?<=[A-Z])(?=[A-Z][a-z])|(?<=[a-z0-9'])(?=[A-Z])", "_", name.replace("-", "_"))
+    return name.lower() if not name.startswith("_") else name
 
 
 def is_own(path, crates):

@@ -23,7 +23,7 @@ use Rattle.requests.specs.declared.Asked.TheVariants.{Time, TimeAndDate, UtcTime
 use Rattle.requests.specs.Requests.{capital_of, small_of, alone, delayed, request_rows, fits, delay_of, request, request_in, request_of}
 use Rattle.demands.specs.Numbers.{Rule, ◌given_when◌, first_of, ◌by_first◌}
 use Rattle.demands.specs.Rules.{place_rules, date_rules}
-use Rattle.demands.specs.Demand1OfReplies.{field_rules, day_rules, reply_rules, reply_writing_rules, is_hex_digit, is_request, request_rules, in_areply}
+use Rattle.demands.specs.Demand1OfReplies.{field_rules, day_rules, reply_rules, reply_writing_rules, is_hex_digit, is_request, request_rules, in_a_reply}
 use Rattle.demands.specs.Demand1OfReplies.{ReadingAReplyRefuses, WritingAReplyRefuses, ReadingARequestRefuses, TheDayOfTheYearRefuses, ARefusedReplyChangesNoByte}
 use Rattle.demands.proofs.Refusing.{else_nothing, first_is_lowest, first_of_both, unless_by, refuses}
 use Rattle.demands.proofs.Demand1Holds.{demand_1_scanning}
@@ -61,7 +61,7 @@ demand_1_reading_a_reply bytes =
     let told = carried bytes in
     let behind_length : (row_fault reply_row bytes else fields_refusal told else day_refusal told) ≡ first_of (place_rules reply_row bytes ++ field_rules told ++ day_rules told) =
     behind (place_rules reply_row bytes) (field_rules told ++ day_rules told) (place_rules_law reply_row bytes) (behind (field_rules told) (day_rules told) (field_rules_law told) (day_rules_law told)) in
-    refuses in_areply (reply_of bytes) (reply_rules bytes)
+    refuses in_a_reply (reply_of bytes) (reply_rules bytes)
     (unless_by (reply_refusal bytes) told (reply_rules bytes) (ap (λ n. 1 when not (eqb (length bytes) 31) else n) behind_length))
     refl
 

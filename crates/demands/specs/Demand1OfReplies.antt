@@ -57,12 +57,12 @@ abbrev pub request_rules : List ℕ → List Rule
 request_rules bytes = 18 given_when not (is_request bytes) ∷ []
 
 -- what reading a reply gives: not 2, as it has neither STX nor ETX
-abbrev pub in_areply : List ℕ
-in_areply = 1 ∷ 3 ∷ 4 ∷ 5 ∷ 6 ∷ 7 ∷ 8 ∷ 17 ∷ []
+abbrev pub in_a_reply : List ℕ
+in_a_reply = 1 ∷ 3 ∷ 4 ∷ 5 ∷ 6 ∷ 7 ∷ 8 ∷ 17 ∷ []
 
 -- a reply read: one of those
 abbrev pub ReadingAReplyRefuses : Type 0
-ReadingAReplyRefuses = (bytes : List ℕ) → (reply_of bytes refused_by reply_rules bytes) × (reply_of bytes done_or in_areply)
+ReadingAReplyRefuses = (bytes : List ℕ) → (reply_of bytes refused_by reply_rules bytes) × (reply_of bytes done_or in_a_reply)
 
 -- a reply written, into a buffer of any length: 5 to 8, 13, 17
 abbrev pub WritingAReplyRefuses : Type 0

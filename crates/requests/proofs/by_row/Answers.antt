@@ -3,7 +3,6 @@ use mathlib.Core.Path.{ap, ◌∙◌}
 use Rattle.refusals.specs.Refusals.{done}
 use Rattle.requests.specs.Requests.{request}
 use Rattle.requests.proofs.ReadLaws.{other_length, misfit, fitting}
-use borrow.Author.Rules.{rules}
 use Rattle.requests.proofs.by_row.Goals as goal
 
 pub returns-then-bytes-row : goal.returns-then-bytes-row

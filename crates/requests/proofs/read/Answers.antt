@@ -2,7 +2,6 @@
 use mathlib.Core.Path.{◌∙◌}
 use Rattle.requests.specs.declared.Asked.TheVariants.{Time, TimeAndDate, UtcTimeAndDate}
 use Rattle.requests.proofs.ReadLaws.{empty, by_capital, by_small, by_none}
-use borrow.Author.Rules.{rules}
 use Rattle.requests.proofs.read.Goals as goal
 
 pub returns-then-bytes-lt1 : goal.returns-then-bytes-lt1
