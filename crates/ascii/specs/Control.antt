@@ -1,5 +1,5 @@
 -- Document 01, "The seven layouts": the control characters that stand around a telegram and at its end.
-use Rattle.std.specs.Prelude.{List, [], ◌∷◌, ℕ}
+use Rattle.std.specs.Prelude.{Bool, true, not, ◌&&◌, List, [], ◌∷◌, ℕ, eqb}
 
 -- "STX (hex 02) and ETX (hex 03)"
 abbrev pub stx : ℕ
@@ -20,3 +20,11 @@ lf_cr = lf ∷ cr ∷ []
 
 abbrev pub cr_lf : List ℕ
 cr_lf = cr ∷ lf ∷ []
+
+-- neither STX nor ETX: such a byte is called plain
+abbrev pub is_plain : ℕ → Bool
+is_plain byte = not (eqb byte stx) && not (eqb byte etx)
+
+abbrev pub all_plain : List ℕ → Bool
+all_plain [] = true
+all_plain (byte ∷ bytes) = is_plain byte && all_plain bytes

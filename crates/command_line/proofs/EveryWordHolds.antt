@@ -1,25 +1,23 @@
 -- Every word says what its bytes say, and the first that does not go with those before it is told. Assumes nothing.
-use mathlib.Core.Path.{◌≡◌, refl, ap, ap₂, sym, ◌∙◌}
-use mathlib.Core.Bool.{Bool, true, false, cond, ◌&&◌, and-false}
+use mathlib.Core.Path.{◌≡◌, refl, ap, ap₂, ◌∙◌}
+use mathlib.Core.Bool.{Bool, true, false, ◌&&◌, and-false}
 use mathlib.Core.List.{List, [], ◌∷◌, ◌++◌}
 use Prim.Native.Nat.{ℕ, suc, ◌+◌, ◌≤◌}
 use native.Mathlib.Omega.{arith}
-use lib.Dec.{eqb, ltb}
+use lib.Dec.{eqb}
 use lib.ListN.{length}
-use borrow.Author.Tests.{eq-eqb, ne_eqb, eqb-true, lt-ltb, le-ltb}
+use borrow.Author.Tests.{ne_eqb, eqb-true, lt-ltb, le-ltb}
 use Rattle.command_line.specs.declared.Wanted.{Wanted}
 use Rattle.command_line.specs.declared.Wanted.TheVariants.{Line, Exchanged, Telegrams, Blocks}
 use Rattle.command_line.specs.declared.Source.{Source}
-use Rattle.command_line.specs.declared.Source.TheVariants.{Input, File}
-use Rattle.command_line.specs.declared.Fault.TheVariants.{NoSuchOption, LongName, SecondListing, SecondFile}
-use Rattle.command_line.specs.declared.Asked.{Asked}
-use Rattle.command_line.specs.declared.Asked.TheVariants.{Listing, Help, Version, Refused}
+use Rattle.command_line.specs.declared.Fault.TheVariants.{SecondListing}
+use Rattle.command_line.specs.declared.Asked.TheVariants.{Refused}
 use Rattle.command_line.specs.declared.Word.{Word}
 use Rattle.command_line.specs.declared.Word.TheVariants as word
 use Rattle.command_line.specs.Words.{is_same, is_option, other_word, word_of}
-use Rattle.command_line.specs.Asking.{no_word, with_listing, with_meaning, with_word, with_words, asked_by, Settled}
+use Rattle.command_line.specs.Asking.{no_word, with_listing, with_meaning, with_words, asked_by, Settled}
 use Rattle.command_line.specs.Exactly.{Lists}
-use Rattle.command_line.specs.EveryWord.{BehindHyphens, NothingElseBehindTwoHyphens, IsNamed, AllOthersAreNames, Settles, TheFirstWrongWordIsTold}
+use Rattle.command_line.specs.EveryWord.{NothingElseBehindTwoHyphens, IsNamed, AllOthersAreNames, Settles, TheFirstWrongWordIsTold}
 use Rattle.command_line.proofs.AskingHolds.{behind, stays}
 use Rattle.command_line.proofs.ExactlyHolds.{these_list}
 

@@ -19,7 +19,7 @@ use Rattle.command_line.specs.declared.Word.{Word}
 use Rattle.command_line.specs.declared.Word.TheVariants as word
 use Rattle.command_line.specs.Words.{is_same, is_option, longest_name, options, other_word, word_in, word_of}
 use Rattle.command_line.specs.Asking.{with_listing, with_meaning, with_words, asked_by, Settled}
-use Rattle.command_line.specs.Exactly.{Lists, none, option, name, option_name, name_option, TheseWordsList, ListedSo, NoOtherWordsListAnything}
+use Rattle.command_line.specs.Exactly.{none, option, name, option_name, name_option, TheseWordsList, ListedSo, NoOtherWordsListAnything}
 use Rattle.command_line.proofs.AskingHolds.{stays}
 
 pub these_list : TheseWordsList

@@ -1,5 +1,5 @@
 -- The words of the command line as they are typed, each with what it says, and lists of them with what they ask for.
-use Rattle.std.specs.Prelude.{◌≡◌, List, [], ◌∷◌, ◌++◌, map, ℕ, replicate}
+use Rattle.std.specs.Prelude.{◌≡◌, List, [], ◌∷◌, map, ℕ, replicate}
 use Prim.Native.String.{String}
 use Rattle.ascii.specs.Ascii.{ascii}
 use Rattle.command_line.specs.declared.Wanted.TheVariants.{Line, Exchanged, Telegrams, Blocks}

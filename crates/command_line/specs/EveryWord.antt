@@ -3,10 +3,9 @@ use Rattle.std.specs.Prelude.{◌≡◌, List, [], ◌∷◌, ◌++◌, ℕ, ◌
 use Rattle.command_line.specs.declared.Wanted.{Wanted}
 use Rattle.command_line.specs.declared.Wanted.TheVariants.{Line}
 use Rattle.command_line.specs.declared.Source.{Source}
-use Rattle.command_line.specs.declared.Source.TheVariants.{Input, File}
+use Rattle.command_line.specs.declared.Source.TheVariants.{File}
 use Rattle.command_line.specs.declared.Fault.TheVariants.{NoSuchOption, LongName, SecondListing, SecondFile}
 use Rattle.command_line.specs.declared.Asked.TheVariants.{Help, Version, Refused}
-use Rattle.command_line.specs.declared.Word.{Word}
 use Rattle.command_line.specs.declared.Word.TheVariants as word
 use Rattle.command_line.specs.Words.{word_of}
 use Rattle.command_line.specs.Asking.{asked_by}

@@ -1,7 +1,6 @@
 -- The words of the log's private function: where in the region the telegram of a slot stands.
 use Rattle.std.specs.Prelude.{List, ◌≡◌, ℕ, ◌+◌, ◌≤◌, length, take, drop}
 use Rattle.refusals.specs.Refusals.{Outcome, done, refused}
-use Rattle.log_rules.specs.declared.add.AddAnswer.TheVariants.{Refused}
 use Rattle.delivery_log.specs.declared.read_back.Located.{Located}
 use Rattle.delivery_log.specs.declared.read_back.Located.TheVariants as located
 use Rattle.log_rules.specs.Answers.{telegram_place}

@@ -150,7 +150,7 @@ fn full_year(year: u8) -> u16
 }
 
 // Two decimal digits as a number. What stands in a slot has four bits.
-fn pair(tens: u8, ones: u8) -> u8
+pub fn pair(tens: u8, ones: u8) -> u8
     ensures { result ≡ 10 * (tens % 16) + ones % 16 }
 {
     10 * (tens % 16) + ones % 16
@@ -166,7 +166,8 @@ fn year_in(layout: DatedLayout, digits: [u8; SLOTS]) -> u16
     full_year(year)
 }
 
-fn time_in(digits: [u8; SLOTS]) -> Time
+// The time in the slots that every layout gives it.
+pub fn time_in(digits: [u8; SLOTS]) -> Time
     ensures { result ≡ time_in digits }
 {
     Time {
@@ -176,7 +177,8 @@ fn time_in(digits: [u8; SLOTS]) -> Time
     }
 }
 
-fn date_in(layout: DatedLayout, digits: [u8; SLOTS]) -> Date
+// The date in the slots that a layout gives it.
+pub fn date_in(layout: DatedLayout, digits: [u8; SLOTS]) -> Date
     ensures { result ≡ date_in layout digits }
 {
     Date {

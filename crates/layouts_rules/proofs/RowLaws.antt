@@ -11,8 +11,8 @@ use Rattle.refusals.specs.Refusals.{Outcome, done}
 use Rattle.refusals.proofs.Laws.{both}
 use Rattle.refusals.proofs.Tables.{all_below, below}
 use Rattle.places_rules.specs.Places.{Place, fixed, slots, place, fixed_holds, every}
-use Rattle.places_rules.proofs.Rows.{distinct, sound, most}
-use Rattle.places_rules.proofs.RoundTrip.{every_at_law}
+use Rattle.places_rules.proofs.Rows.{distinct, sound, slotted, plain, most}
+use Rattle.places_rules.proofs.RoundTrip.{every_at_law, sound_slotted, sound_plain}
 use Rattle.record_rules.specs.declared.DatedLayout.TheVariants.{L6021, L2000, L5500, L5050}
 use Rattle.record_rules.specs.declared.TimeLayout.TheVariants.{T6021, T5500, T5050}
 use Rattle.layouts_rules.specs.declared.Layout.{Layout}
@@ -47,6 +47,12 @@ row_distinct layout = (both (distinct (places_of layout)) _ (tested layout)).0
 pub row_sound : (layout : Layout) → sound (places_of layout) ≡ true
 unfolding test
 row_sound layout = (both (sound (places_of layout)) _ (both (distinct (places_of layout)) _ (tested layout)).1).0
+
+pub row_slotted : (layout : Layout) → slotted (places_of layout) ≡ true
+row_slotted layout = sound_slotted (places_of layout) (row_sound layout)
+
+pub row_plain : (layout : Layout) → plain (places_of layout) ≡ true
+row_plain layout = sound_plain (places_of layout) (row_sound layout)
 
 pub row_length : (layout : Layout) → (8 ≤ length (places_of layout)) × (length (places_of layout) ≤ 23)
 unfolding test

@@ -1,8 +1,8 @@
 -- A good reply's digits carry that reply, and its row makes of digits what it makes of those of the reply that they carry.
 -- Assumes nothing.
-use mathlib.Core.Path.{◌≡◌, refl, ap, ap₂, sym, ◌∙◌}
+use mathlib.Core.Path.{◌≡◌, refl, ap, sym, ◌∙◌}
 use mathlib.Core.Bool.{Bool, true, false, ◌||◌, or-true}
-use mathlib.Core.List.{List, [], ◌∷◌}
+use mathlib.Core.List.{List}
 use Prim.Native.Nat.{ℕ, zero, suc, ◌+◌, ◌-◌, ◌*◌, ◌/◌, ◌%◌, ◌≤◌}
 use native.Mathlib.Omega.{arith}
 use lib.Dec.{ltb}
@@ -10,10 +10,10 @@ use lib.ListN.{get_or, replicate}
 use lib.Seq.{get_or-drop}
 use borrow.Author.Tests.{ltb-true, ltb-false}
 use Rattle.refusals.proofs.Tables.{◌also◌, all_below, below}
-use Rattle.places_rules.specs.Places.{Place, fixed, decimal, code, is_decimal, is_capital, code_value, code_character, byte_at, render}
+use Rattle.places_rules.specs.Places.{is_decimal, is_capital, code_value, render}
 use Rattle.places_rules.proofs.Characters.{is_decimal_law, is_capital_law, value_of_character, code_back, code_small}
 use Rattle.places_rules.proofs.Rows.{used_in, most, all_shown, Held}
-use Rattle.places_rules.proofs.RoundTrip.{held_most}
+use Rattle.places_rules.proofs.RoundTrip.{held_most, AllSame, same_bytes}
 use Rattle.calendar_rules.specs.Ranges.{inside}
 use Rattle.calendar_rules.proofs.Dates as dates
 use Rattle.record_rules.specs.declared.DatedLayout.TheVariants.{L6021}
@@ -119,26 +119,6 @@ module _ (reply : Reply) (g : Good reply) (day_small : reply.day_of_year ≤ 999
 
   pub digits_held : Held reply_row (digits_out reply)
   digits_held = record { size = refl; each = shown_digits; idle = idle_digits }
-
--- Two lists of digits that agree in the slots of a row make the same bytes.
-abbrev same_at : List ℕ → List ℕ → Place → Type 0
-same_at a b (fixed character) = Unit {0}
-same_at a b (decimal slot) = get_or a slot 0 ≡ get_or b slot 0
-same_at a b (code slot) = get_or a slot 0 ≡ get_or b slot 0
-
-abbrev AllSame : List ℕ → List ℕ → List Place → Type 0
-AllSame a b [] = Unit {0}
-AllSame a b (p ∷ row) = same_at a b p × AllSame a b row
-
-same_byte : (a b : List ℕ) (p : Place) → same_at a b p → byte_at a p ≡ byte_at b p
-same_byte a b (fixed character) e = refl
-same_byte a b (decimal slot) e = ap (λ n. code_character (n % 16)) e
-same_byte a b (code slot) e = ap (λ n. code_character (n % 16)) e
-
-same_bytes : (row : List Place) (a b : List ℕ) → AllSame a b row → render row a ≡ render row b
-unfolding render
-same_bytes [] a b e = refl
-same_bytes (p ∷ row) a b e = ap₂ ◌∷◌ (same_byte a b p e.0) (same_bytes row a b e.1)
 
 -- Digits that the row can carry, and those of the reply that they carry.
 module _ (digits : List ℕ) (h : Held reply_row digits) where

@@ -9,7 +9,7 @@ use Rattle.line.specs.ReaderSentences.{TheAccountHolds, TheAccountHoldsAfterTheE
 use Rattle.line.proofs.StaysGood.{end_good}
 use Rattle.line_rules.proofs.EventLaws.{good_fresh, good_after}
 use Rattle.line.proofs.CutLaws.{feeding_splits, cut_anywhere}
-use Rattle.line_rules.proofs.AccountLaws.{end_size, heard_sizes, line, stray_is, sum}
+use Rattle.line_rules.proofs.AccountLaws.{end_size, heard_sizes, stray_is, sum}
 
 -- and so of the reader that any caller's loop leaves
 pub the_account_holds : TheAccountHolds

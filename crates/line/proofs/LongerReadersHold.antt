@@ -10,7 +10,7 @@ use Rattle.line_rules.specs.Events.{line_after}
 use Rattle.line.specs.LongerReaders.{TheEndCutsOffUpTo38, TheRuleIsTheOneAt38}
 use Rattle.line.proofs.StaysGood.{end_good}
 use Rattle.line_rules.proofs.EventLaws.{good_fresh, good_after}
-use Rattle.line_rules.proofs.LongerTelegramsHold.{begins_at_0, gives, held}
+use Rattle.line_rules.proofs.LongerTelegramsHold.{begins_at_0, gives}
 
 pub the_end_cuts_off_up_to_38 : TheEndCutsOffUpTo38
 the_end_cuts_off_up_to_38 order body plain room =

@@ -1,5 +1,5 @@
 -- Laws of a reader: what a well-formed one gives, and what it answers. Assumes nothing.
-use Rattle.std.proofs.Common.{◌≡◌, ℕ, ◌+◌, ◌-◌, ◌%◌, ◌^◌, ◌<◌, ◌≤◌, true, false, ◌&&◌, eqb, leb, List, [], ◌∷◌, ◌++◌, length, take, drop, replicate, sym, refl, ap, ◌∙◌, add-zero, arith, take-append-drop, eqb-true, leb-true}
+use Rattle.std.proofs.Common.{◌≡◌, ℕ, ◌-◌, ◌%◌, ◌^◌, ◌<◌, ◌≤◌, true, false, ◌&&◌, eqb, leb, List, [], ◌∷◌, ◌++◌, length, take, drop, replicate, sym, refl, ap, ◌∙◌, add-zero, arith, take-append-drop, eqb-true, leb-true}
 use Rattle.refusals.specs.Refusals.{refused}
 use Rattle.refusals.proofs.Laws.{both}
 use Rattle.record_rules.specs.declared.RecordAnswer.TheVariants as answer

@@ -1,5 +1,5 @@
 -- The listings of files that have no block, and the room that the rows of a block need. Assumes nothing.
-use mathlib.Core.Path.{◌≡◌, refl, ap, ◌∙◌}
+use mathlib.Core.Path.{◌≡◌, refl, ap}
 use mathlib.Core.Bool.{Bool, true, false}
 use mathlib.Core.List.{List, [], ◌∷◌}
 use Prim.Native.Nat.{ℕ, zero, suc, ◌+◌, ◌*◌, ◌^◌, ◌≤◌, ◌<◌}
@@ -13,7 +13,7 @@ use Rattle.log_rules.specs.Good.{telegrams_of, is_good}
 use Rattle.log_rules.proofs.BlockLaws.{good_kept, kept_count}
 use Rattle.listing_rules.specs.Decimals.{decimal, decimal_within}
 use Rattle.listing_rules.specs.Listing.{refused_row}
-use Rattle.listing_rules.specs.LogRows.{log_header, slot_row, telegram_row, verify_header, tail_row, bad_count, longest_log_row}
+use Rattle.listing_rules.specs.LogRows.{log_header, slot_row, verify_header, tail_row, bad_count, longest_log_row}
 use Rattle.listing_rules.proofs.RowLaws.{refused_short}
 use Rattle.listing_rules.proofs.LogRowLaws.{slot_short}
 use Rattle.listing_of_logs.specs.LogPages.{row_of, bytes_of, rows_from, block_rows, offset_of, page_room}

@@ -1,6 +1,6 @@
 -- Over any row: what is rendered reads back, and what reads is what is rendered. Assumes nothing.
 use mathlib.Core.Path.{◌≡◌, refl, ap, ap₂, sym, ◌∙◌}
-use mathlib.Core.Bool.{Bool, true, false, cond, ◌||◌}
+use mathlib.Core.Bool.{Bool, true, false, cond, not, ◌||◌}
 use mathlib.Core.List.{List, [], ◌∷◌}
 use Prim.Native.Nat.{ℕ, zero, suc, ◌%◌, ◌≤◌, ◌<◌}
 use native.Mathlib.Omega.{arith}
@@ -11,7 +11,7 @@ use borrow.Author.Tests.{eq-eqb, eqb-true, eqb-false, ltb-true, not-true}
 use Rattle.refusals.proofs.Laws.{both}
 use Rattle.places_rules.specs.Places.{Place, fixed, decimal, code, slots, code_value, code_character, fixed_holds, decimal_holds, code_holds, every, store, gather, no_digits, byte_at, render}
 use Rattle.places_rules.proofs.Characters.{character_fits, character_decimal, value_of_character, decimal_back, code_back, decimal_small, code_small}
-use Rattle.places_rules.proofs.Rows.{uses, used_in, apart, distinct, sound_place, sound, shown, all_shown, most, Held}
+use Rattle.places_rules.proofs.Rows.{uses, used_in, apart, distinct, sound_place, sound, slotted_place, slotted, plain_place, plain, shown, all_shown, most, Held}
 
 -- what is rendered fits its row
 all_hold : (holds : Place → ℕ → Bool) (digits : List ℕ) → ((p : Place) → holds p (byte_at digits p) ≡ true)
@@ -37,8 +37,31 @@ module _ (row : List Place) (digits : List ℕ) where
       one (decimal slot) = refl
       one (code slot) = character_fits (get_or digits slot 0 % 16) (omega arith)
 
-sound_parts : (p : Place) (row : List Place) → sound (p ∷ row) ≡ true → (sound_place p ≡ true) × (sound row ≡ true)
-sound_parts p row e = both (sound_place p) (sound row) e
+-- a sound row is both: its slots are slots, and none of its fixed characters is STX or ETX
+sound_slotted_place : (p : Place) → sound_place p ≡ true → slotted_place p ≡ true
+sound_slotted_place (fixed character) e = refl
+sound_slotted_place (decimal slot) e = e
+sound_slotted_place (code slot) e = e
+
+pub sound_slotted : (row : List Place) → sound row ≡ true → slotted row ≡ true
+sound_slotted [] e = refl
+sound_slotted (p ∷ row) e =
+    let parts = both (sound_place p) (sound row) e in
+    rw (sound_slotted_place p parts.0, sound_slotted row parts.1)
+
+sound_plain_place : (p : Place) → sound_place p ≡ true → plain_place p ≡ true
+sound_plain_place (fixed character) e = e
+sound_plain_place (decimal slot) e = refl
+sound_plain_place (code slot) e = refl
+
+pub sound_plain : (row : List Place) → sound row ≡ true → plain row ≡ true
+sound_plain [] e = refl
+sound_plain (p ∷ row) e =
+    let parts = both (sound_place p) (sound row) e in
+    rw (sound_plain_place p parts.0, sound_plain row parts.1)
+
+slotted_parts : (p : Place) (row : List Place) → slotted (p ∷ row) ≡ true → (slotted_place p ≡ true) × (slotted row ≡ true)
+slotted_parts p row e = both (slotted_place p) (slotted row) e
 
 pub decimals_rendered : (row : List Place) (digits : List ℕ) → all_shown digits row → every decimal_holds row (render row digits) ≡ true
 unfolding render
@@ -63,7 +86,7 @@ length_store (decimal slot) byte base = length-set base slot (code_value byte)
 length_store (code slot) byte base = length-set base slot (code_value byte)
 
 -- a slot that the row does not use stays as it was
-outside_store : (p : Place) (byte slot : ℕ) (base : List ℕ) → uses slot p ≡ false → length base ≡ slots → sound_place p ≡ true
+outside_store : (p : Place) (byte slot : ℕ) (base : List ℕ) → uses slot p ≡ false → length base ≡ slots → slotted_place p ≡ true
     → get_or (store p byte base) slot 0 ≡ get_or base slot 0
 outside_store (fixed character) byte slot base no_use size fits = refl
 outside_store (decimal at) byte slot base no_use size fits =
@@ -75,13 +98,13 @@ neither : (a b : Bool) → (a || b) ≡ false → (a ≡ false) × (b ≡ false)
 neither true b e = let z : ◌≡◌ {A = ℕ} 0 1 = cc in absurd (omega arith)
 neither false b e = (refl, e)
 
-gather_outside : (row : List Place) (bytes base : List ℕ) (slot : ℕ) → used_in slot row ≡ false → sound row ≡ true → length base ≡ slots
+gather_outside : (row : List Place) (bytes base : List ℕ) (slot : ℕ) → used_in slot row ≡ false → slotted row ≡ true → length base ≡ slots
     → get_or (gather row bytes base) slot 0 ≡ get_or base slot 0
 gather_outside [] bytes base slot no_use fits size = refl
 gather_outside (p ∷ row) [] base slot no_use fits size = refl
 gather_outside (p ∷ row) (byte ∷ bytes) base slot no_use fits size =
     let n = neither (uses slot p) (used_in slot row) no_use in
-    let f = sound_parts p row fits in
+    let f = slotted_parts p row fits in
     gather_outside row bytes (store p byte base) slot n.1 f.1 (length_store p byte base ∙ size)
     ∙ outside_store p byte slot base n.0 size f.0
 
@@ -110,18 +133,18 @@ module _ (digits : List ℕ) where
       ∙ ap (λ x. cond (used_in slot row) (get_or digits slot 0) x) (stored base at value slot fits)
       ∙ merged at slot value (used_in slot row) digits base v
 
-  read_at : (row : List Place) (base : List ℕ) (slot : ℕ) → all_shown digits row → sound row ≡ true → length base ≡ slots
+  read_at : (row : List Place) (base : List ℕ) (slot : ℕ) → all_shown digits row → slotted row ≡ true → length base ≡ slots
       → get_or (gather row (render row digits) base) slot 0 ≡ cond (used_in slot row) (get_or digits slot 0) (get_or base slot 0)
   unfolding render
   read_at [] base slot each fits size = refl
   read_at (fixed character ∷ row) base slot each fits size =
-      read_at row base slot each.1 (sound_parts (fixed character) row fits).1 size
+      read_at row base slot each.1 (slotted_parts (fixed character) row fits).1 size
   read_at (decimal at ∷ row) base slot each fits size =
-      let f = sound_parts (decimal at) row fits in
+      let f = slotted_parts (decimal at) row fits in
       through row base _ at _ slot (omega (arith, ltb-true at slots f.0)) (digit_read at (omega (arith, each.0)))
       (read_at row (set base at (code_value (code_character (get_or digits at 0 % 16)))) slot each.1 f.1 (length-set base at _ ∙ size))
   read_at (code at ∷ row) base slot each fits size =
-      let f = sound_parts (code at) row fits in
+      let f = slotted_parts (code at) row fits in
       through row base _ at _ slot (omega (arith, ltb-true at slots f.0)) (digit_read at each.0)
       (read_at row (set base at (code_value (code_character (get_or digits at 0 % 16)))) slot each.1 f.1 (length-set base at _ ∙ size))
 
@@ -136,7 +159,7 @@ no_digit (suc n) zero = refl
 no_digit (suc n) (suc slot) = no_digit n slot
 
 -- What is rendered reads back: the digits are the same.
-pub reads_back_law : (row : List Place) (digits : List ℕ) → Held row digits → sound row ≡ true → gather row (render row digits) no_digits ≡ digits
+pub reads_back_law : (row : List Place) (digits : List ℕ) → Held row digits → slotted row ≡ true → gather row (render row digits) no_digits ≡ digits
 reads_back_law row digits held fits =
     ext_get_or 0 _ digits (length_gather row (render row digits) no_digits ∙ sym held.size)
     (λ slot below. read_at digits row no_digits slot held.each fits refl ∙ other (used_in slot row) slot refl)
@@ -152,7 +175,7 @@ byte_back (fixed character) byte digits f d c at = sym (eqb-true byte character 
 byte_back (decimal slot) byte digits f d c at = rw (at slot (eq-eqb slot slot refl)) (decimal_back byte d)
 byte_back (code slot) byte digits f d c at = rw (at slot (eq-eqb slot slot refl)) (code_back byte c)
 
-slot_kept : (row : List Place) (byte : ℕ) (bytes base : List ℕ) (at slot : ℕ) → eqb at slot ≡ true → used_in at row ≡ false → sound row ≡ true
+slot_kept : (row : List Place) (byte : ℕ) (bytes base : List ℕ) (at slot : ℕ) → eqb at slot ≡ true → used_in at row ≡ false → slotted row ≡ true
     → length base ≡ slots → at < slots → get_or (gather row bytes (set base at (code_value byte))) slot 0 ≡ code_value byte
 slot_kept row byte bytes base at slot same alone fits size below =
     rw (← eqb-true at slot same)
@@ -160,14 +183,14 @@ slot_kept row byte bytes base at slot same alone fits size below =
     ∙ get_or-set_same base at (code_value byte) 0 (omega arith))
 
 -- the slot of a place holds its byte's value in the end, where no later place uses that slot
-kept : (p : Place) (row : List Place) (byte : ℕ) (bytes base : List ℕ) → apart p row ≡ true → sound (p ∷ row) ≡ true → length base ≡ slots
+kept : (p : Place) (row : List Place) (byte : ℕ) (bytes base : List ℕ) → apart p row ≡ true → slotted (p ∷ row) ≡ true → length base ≡ slots
     → (slot : ℕ) → uses slot p ≡ true → get_or (gather row bytes (store p byte base)) slot 0 ≡ code_value byte
 kept (fixed character) row byte bytes base alone fits size slot same = let z : ◌≡◌ {A = ℕ} 0 1 = cc in absurd (omega arith)
 kept (decimal at) row byte bytes base alone fits size slot same =
-    let f = sound_parts (decimal at) row fits in
+    let f = slotted_parts (decimal at) row fits in
     slot_kept row byte bytes base at slot same (not-true _ alone) f.1 size (ltb-true at slots f.0)
 kept (code at) row byte bytes base alone fits size slot same =
-    let f = sound_parts (code at) row fits in
+    let f = slotted_parts (code at) row fits in
     slot_kept row byte bytes base at slot same (not-true _ alone) f.1 size (ltb-true at slots f.0)
 
 -- the three tests of a row's bytes, taken apart
@@ -175,7 +198,7 @@ module _ (p : Place) (row : List Place) (byte : ℕ) (bytes : List ℕ) where
   every_parts : (holds : Place → ℕ → Bool) → every holds (p ∷ row) (byte ∷ bytes) ≡ true → (holds p byte ≡ true) × (every holds row bytes ≡ true)
   every_parts holds e = both (holds p byte) (every holds row bytes) e
 
-pub makes_again : (row : List Place) (bytes base : List ℕ) → distinct row ≡ true → sound row ≡ true → length bytes ≡ length row → length base ≡ slots
+pub makes_again : (row : List Place) (bytes base : List ℕ) → distinct row ≡ true → slotted row ≡ true → length bytes ≡ length row → length base ≡ slots
     → every fixed_holds row bytes ≡ true → every decimal_holds row bytes ≡ true → every code_holds row bytes ≡ true
     → render row (gather row bytes base) ≡ bytes
 unfolding render
@@ -188,7 +211,7 @@ makes_again (p ∷ row) (byte ∷ bytes) base alone fits same size f d c =
     let ds = every_parts p row byte bytes decimal_holds d in
     let cs = every_parts p row byte bytes code_holds c in
     let here = byte_back p byte _ fs.0 ds.0 cs.0 (kept p row byte bytes base a.0 fits size) in
-    let later = makes_again row bytes (store p byte base) a.1 (sound_parts p row fits).1 (omega arith) (length_store p byte base ∙ size) fs.1 ds.1 cs.1 in
+    let later = makes_again row bytes (store p byte base) a.1 (slotted_parts p row fits).1 (omega arith) (length_store p byte base ∙ size) fs.1 ds.1 cs.1 in
     ap₂ ◌∷◌ here later
 
 -- Digits that were read are digits that the row can carry.
@@ -198,7 +221,7 @@ shown_here (fixed character) byte digits d c at = tt
 shown_here (decimal slot) byte digits d c at = omega (arith, at slot (eq-eqb slot slot refl), decimal_small byte d)
 shown_here (code slot) byte digits d c at = omega (arith, at slot (eq-eqb slot slot refl), code_small byte c)
 
-shown_gather : (row : List Place) (bytes base : List ℕ) → distinct row ≡ true → sound row ≡ true → length bytes ≡ length row → length base ≡ slots
+shown_gather : (row : List Place) (bytes base : List ℕ) → distinct row ≡ true → slotted row ≡ true → length bytes ≡ length row → length base ≡ slots
     → every decimal_holds row bytes ≡ true → every code_holds row bytes ≡ true → all_shown (gather row bytes base) row
 shown_gather [] bytes base alone fits same size d c = tt
 shown_gather (p ∷ row) [] base alone fits same size d c = absurd (omega arith)
@@ -207,10 +230,10 @@ shown_gather (p ∷ row) (byte ∷ bytes) base alone fits same size d c =
     let ds = every_parts p row byte bytes decimal_holds d in
     let cs = every_parts p row byte bytes code_holds c in (
       shown_here p byte _ ds.0 cs.0 (kept p row byte bytes base a.0 fits size),
-      shown_gather row bytes (store p byte base) a.1 (sound_parts p row fits).1 (omega arith) (length_store p byte base ∙ size) ds.1 cs.1,
+      shown_gather row bytes (store p byte base) a.1 (slotted_parts p row fits).1 (omega arith) (length_store p byte base ∙ size) ds.1 cs.1,
     )
 
-pub held_gather : (row : List Place) (bytes : List ℕ) → distinct row ≡ true → sound row ≡ true → length bytes ≡ length row
+pub held_gather : (row : List Place) (bytes : List ℕ) → distinct row ≡ true → slotted row ≡ true → length bytes ≡ length row
     → every decimal_holds row bytes ≡ true → every code_holds row bytes ≡ true → Held row (gather row bytes no_digits)
 held_gather row bytes alone fits same d c =
     record {
@@ -246,3 +269,23 @@ every_at_law holds (q ∷ row) [] p e k r b = absurd (omega arith)
 every_at_law holds (q ∷ row) (byte ∷ bytes) p e zero r b = (every_parts q row byte bytes holds e).0
 every_at_law holds (q ∷ row) (byte ∷ bytes) p e (suc k) r b =
     every_at_law holds row bytes p (every_parts q row byte bytes holds e).1 k (omega arith) (omega arith)
+
+-- Two lists of digits that agree in the slots of a row make the same bytes.
+abbrev pub same_at : List ℕ → List ℕ → Place → Type 0
+same_at a b (fixed character) = Unit {0}
+same_at a b (decimal slot) = get_or a slot 0 ≡ get_or b slot 0
+same_at a b (code slot) = get_or a slot 0 ≡ get_or b slot 0
+
+abbrev pub AllSame : List ℕ → List ℕ → List Place → Type 0
+AllSame a b [] = Unit {0}
+AllSame a b (p ∷ row) = same_at a b p × AllSame a b row
+
+same_byte : (a b : List ℕ) (p : Place) → same_at a b p → byte_at a p ≡ byte_at b p
+same_byte a b (fixed character) e = refl
+same_byte a b (decimal slot) e = ap (λ n. code_character (n % 16)) e
+same_byte a b (code slot) e = ap (λ n. code_character (n % 16)) e
+
+pub same_bytes : (row : List Place) (a b : List ℕ) → AllSame a b row → render row a ≡ render row b
+unfolding render
+same_bytes [] a b e = refl
+same_bytes (p ∷ row) a b e = ap₂ ◌∷◌ (same_byte a b p e.0) (same_bytes row a b e.1)

@@ -37,6 +37,26 @@ abbrev pub sound : List Place → Bool
 sound [] = true
 sound (p ∷ row) = sound_place p && sound row
 
+-- a slot is one of the slots
+abbrev pub slotted_place : Place → Bool
+slotted_place (fixed character) = true
+slotted_place (decimal slot) = ltb slot slots
+slotted_place (code slot) = ltb slot slots
+
+abbrev pub slotted : List Place → Bool
+slotted [] = true
+slotted (p ∷ row) = slotted_place p && slotted row
+
+-- no fixed character is STX or ETX
+abbrev pub plain_place : Place → Bool
+plain_place (fixed character) = not (eqb character 2) && not (eqb character 3)
+plain_place (decimal slot) = true
+plain_place (code slot) = true
+
+abbrev pub plain : List Place → Bool
+plain [] = true
+plain (p ∷ row) = plain_place p && plain row
+
 -- each place has a digit that it can show: a decimal up to 9, a code up to 15
 abbrev pub shown : List ℕ → Place → Type 0
 shown digits (fixed character) = Unit {0}

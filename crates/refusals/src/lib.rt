@@ -48,6 +48,8 @@ pub const BLOCK_BAD: u8 = 20;
 
 pub const NO_FREE_SLOT: u8 = 21;
 
+pub const UNKNOWN_COMMAND: u8 = 22;
+
 pub const NO_SUCH_TELEGRAM: u8 = 27;
 
 // The lower of two refusals, where 0 is none.

@@ -36,7 +36,8 @@ fn read_as(layout: Layout, body: &[u8]) -> RecordAnswer
     RecordAnswer::Good(rec)
 }
 
-fn is_framed(bytes: &[u8]) -> bool
+// Whether the first byte is STX and the last is ETX.
+pub fn is_framed(bytes: &[u8]) -> bool
     ensures { result ≡ framed bytes.now }
 {
     let length = bytes.len();

@@ -15,7 +15,7 @@ use Rattle.record_rules.specs.Rule.{refusal_of}
 use Rattle.layouts_rules.specs.declared.Layout.{Layout}
 use Rattle.layouts_rules.specs.Layouts.{places_of, own_layout, layout_of}
 use Rattle.layouts_rules.specs.Coding.{record_in, digits_out}
-use Rattle.layouts_rules.proofs.RowLaws.{row_distinct, row_sound, row_length, row_fits, found_again}
+use Rattle.layouts_rules.proofs.RowLaws.{row_distinct, row_slotted, row_length, row_fits, found_again}
 use Rattle.layouts_rules.proofs.Carried.{own_layout_law, record_back, digits_held, digits_back}
 use Rattle.telegram_rules.specs.Reading.{body_of, framed, carried, body_refusal, read_in, read_of}
 use Rattle.telegram_rules.specs.Writing.{body_bytes, telegram_of}
@@ -32,7 +32,7 @@ module _ (rec : Record) (none : refusal_of rec ≡ 0) where
   body_carries : carried (own_layout rec) (body_bytes rec) ≡ rec
   unfolding carried body_bytes
   body_carries =
-      ap (record_in (own_layout rec)) (reads_back_law (places_of (own_layout rec)) (digits_out rec) (digits_held rec none) (row_sound (own_layout rec)))
+      ap (record_in (own_layout rec)) (reads_back_law (places_of (own_layout rec)) (digits_out rec) (digits_held rec none) (row_slotted (own_layout rec)))
       ∙ record_back rec none
 
   body_fits : (every fixed_holds (places_of (own_layout rec)) (body_bytes rec) ≡ true)
@@ -78,7 +78,7 @@ module _ (layout : Layout) (body : List ℕ) (same : length body ≡ length (pla
   unfolding carried
   digits_again =
       digits_back layout (gather (places_of layout) body no_digits)
-      (held_gather (places_of layout) body (row_distinct layout) (row_sound layout) same tests.1 tests.2)
+      (held_gather (places_of layout) body (row_distinct layout) (row_slotted layout) same tests.1 tests.2)
 
   layout_again : own_layout (carried layout body) ≡ layout
   unfolding carried
@@ -88,7 +88,7 @@ module _ (layout : Layout) (body : List ℕ) (same : length body ≡ length (pla
   unfolding body_bytes
   body_again =
       ap₂ (λ l d. render (places_of l) d) layout_again digits_again
-      ∙ makes_again (places_of layout) body no_digits (row_distinct layout) (row_sound layout) same refl tests.0 tests.1 tests.2
+      ∙ makes_again (places_of layout) body no_digits (row_distinct layout) (row_slotted layout) same refl tests.0 tests.1 tests.2
 
 -- (b) what the reader accepts is what the writer makes of the record it gave, and that record is good
 pub record Accepted (control : Bool) (bytes : List ℕ) (rec : Record) : Type 0 where

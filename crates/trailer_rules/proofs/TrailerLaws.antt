@@ -40,6 +40,13 @@ exchange_take zero (suc (suc size)) (first ∷ second ∷ more) there = refl
 exchange_take (suc at) (suc size) [] there = refl
 exchange_take (suc at) (suc size) (first ∷ more) there = ap (◌∷◌ first) (exchange_take at size more (omega arith))
 
+-- nor what stands before them
+pub exchange_ahead : (at place : ℕ) (bytes : List ℕ) → place < at → get_or (exchange_at at bytes) place 0 ≡ get_or bytes place 0
+exchange_ahead zero place bytes there = absurd (omega arith)
+exchange_ahead (suc at) place [] there = refl
+exchange_ahead (suc at) zero (first ∷ more) there = refl
+exchange_ahead (suc at) (suc place) (first ∷ more) there = exchange_ahead at place more (omega arith)
+
 pub exchange_behind : (at place : ℕ) (bytes : List ℕ) → at + 2 ≤ place → get_or (exchange_at at bytes) place 0 ≡ get_or bytes place 0
 exchange_behind at zero bytes there = absurd (omega arith)
 exchange_behind zero (suc zero) bytes there = absurd (omega arith)

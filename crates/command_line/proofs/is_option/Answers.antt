@@ -1,7 +1,6 @@
 -- `command_line::is_option` meets its contract.
 use mathlib.Core.Path.{sym}
 use Rattle.command_line.proofs.WordLaws.{too_short, no_hyphen, one_hyphen}
-use borrow.Author.Rules.{rules}
 use Rattle.command_line.proofs.is_option.Goals as goal
 
 pub returns-then-word-lt2 : goal.returns-then-word-lt2

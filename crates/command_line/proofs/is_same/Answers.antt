@@ -1,10 +1,7 @@
 -- `command_line::is_same` meets its contract. The loop's invariant: the words are as long, and what is left of them is the same where
 -- they are.
-use mathlib.Core.Path.{◌≡◌, refl, sym, ◌∙◌}
-use Prim.Native.Nat.{◌-◌, ◌≤◌}
+use mathlib.Core.Path.{refl, sym, ◌∙◌}
 use native.Mathlib.Omega.{arith}
-use lib.ListN.{length, drop}
-use Rattle.command_line.specs.Words.{is_same}
 use Rattle.command_line.proofs.WordLaws.{other_length, differ, agree, used_up}
 use Rattle.command_line.proofs.is_same.Goals as goal
 

@@ -1,11 +1,9 @@
 -- `command_line::is_same` meets its contract. The loop's invariant: the words are as long, and what is left of them is the same where
 -- they are.
-use mathlib.Core.Path.{◌≡◌, refl, sym, ◌∙◌}
+use mathlib.Core.Path.{◌≡◌}
 use Prim.Native.Nat.{◌-◌, ◌≤◌}
-use native.Mathlib.Omega.{arith}
 use lib.ListN.{length, drop}
 use Rattle.command_line.specs.Words.{is_same}
-use Rattle.command_line.proofs.WordLaws.{other_length, differ, agree, used_up}
 use Rattle.command_line.proofs.is_same.Given as goal
 
 abbrev pub invariant-loop-at : goal.invariant-loop-at

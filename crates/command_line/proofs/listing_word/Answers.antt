@@ -1,6 +1,5 @@
 -- `command_line::listing_word` meets its contract: the first option that the word is, or what is left.
 use mathlib.Core.Path.{sym, ◌∙◌}
-use borrow.Author.Rules.{rules}
 use Rattle.command_line.proofs.listing_word.Goals as goal
 
 pub returns-then-is_same : goal.returns-then-is_same

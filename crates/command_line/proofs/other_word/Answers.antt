@@ -1,7 +1,6 @@
 -- `command_line::other_word` meets its contract.
 use mathlib.Core.Path.{sym, ◌∙◌}
 use borrow.Author.Tests.{lt-ltb, le-ltb}
-use borrow.Author.Rules.{rules}
 use Rattle.command_line.specs.Words.{other_word}
 use Rattle.command_line.proofs.other_word.Goals as goal
 

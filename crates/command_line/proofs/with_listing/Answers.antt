@@ -1,5 +1,4 @@
 -- `command_line::with_listing` meets its contract.
-use borrow.Author.Rules.{rules}
 use Rattle.command_line.proofs.with_listing.Goals as goal
 
 pub returns-in-Line : goal.returns-in-Line

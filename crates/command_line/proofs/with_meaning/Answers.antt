@@ -1,6 +1,5 @@
 -- `command_line::with_meaning` meets its contract.
 use mathlib.Core.Path.{◌∙◌}
-use borrow.Author.Rules.{rules}
 use Rattle.command_line.proofs.with_meaning.Goals as goal
 
 pub returns-in-Listing : goal.returns-in-Listing

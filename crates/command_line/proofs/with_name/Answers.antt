@@ -1,5 +1,4 @@
 -- `command_line::with_name` meets its contract.
-use borrow.Author.Rules.{rules}
 use Rattle.command_line.proofs.with_name.Goals as goal
 
 pub returns-in-Input : goal.returns-in-Input

@@ -1,5 +1,4 @@
 -- `command_line::with_word` meets its contract.
-use borrow.Author.Rules.{rules}
 use Rattle.command_line.proofs.with_word.Goals as goal
 
 pub returns-in-Listing : goal.returns-in-Listing

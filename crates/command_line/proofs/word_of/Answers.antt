@@ -1,6 +1,5 @@
 -- `command_line::word_of` meets its contract: the first option that the word is, or what is left.
 use mathlib.Core.Path.{sym, ◌∙◌}
-use borrow.Author.Rules.{rules}
 use Rattle.command_line.specs.Words.{word_of}
 use Rattle.command_line.proofs.word_of.Goals as goal
 

@@ -1,5 +1,5 @@
 -- `line::begun` meets its contract.
-use Rattle.std.proofs.Common.{[], ◌∷◌, sym, ◌∙◌, arith, rules}
+use Rattle.std.proofs.Common.{[], ◌∷◌, sym, ◌∙◌, arith}
 use Rattle.ascii.specs.Control.{stx}
 use Rattle.line.proofs.Forms.{start_is, reader_is}
 use Rattle.line.proofs.begun.Goals as goal

@@ -1,5 +1,5 @@
 -- `line::feed_begun` meets its contract.
-use Rattle.std.proofs.Common.{◌+◌, ◌-◌, [], ◌∷◌, length, take, drop, refl, ap, ◌∙◌, arith, length-drop, length-take, take_all, rules}
+use Rattle.std.proofs.Common.{◌+◌, ◌-◌, [], ◌∷◌, length, take, drop, refl, ap, ◌∙◌, arith, length-drop, length-take, take_all}
 use Rattle.ascii.specs.Control.{stx}
 use Rattle.line.specs.Readers.{well_formed, feed_reader}
 use Rattle.line_rules.specs.Line.{line_with}

@@ -1,5 +1,5 @@
 -- `line::feed_from_stx` meets its contract.
-use Rattle.std.proofs.Common.{◌≡◌, ℕ, ◌+◌, ◌-◌, ◌<◌, ◌≤◌, List, length, take, drop, ap, ◌∙◌, arith, length-drop, take_all, rules}
+use Rattle.std.proofs.Common.{◌≡◌, ℕ, ◌+◌, ◌-◌, ◌<◌, ◌≤◌, List, length, take, drop, ap, ◌∙◌, arith, length-drop, take_all}
 use Rattle.line_rules.specs.Line.{places}
 use Rattle.line_rules.specs.Runs.{roomy_run}
 use Rattle.line_rules.proofs.RunLaws.{run_within}

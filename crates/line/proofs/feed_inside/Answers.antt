@@ -1,6 +1,5 @@
 -- `line::feed_inside` meets its contract.
-use Rattle.std.proofs.Common.{◌≡◌, ◌+◌, ◌%◌, ◌^◌, ◌<◌, [], ◌∷◌, length, get_or, take, sym, refl, ap, ◌∙◌, ap₂, arith, rules}
-use lib.ListN.{length-map}
+use Rattle.std.proofs.Common.{◌≡◌, ◌+◌, ◌%◌, ◌^◌, ◌<◌, [], ◌∷◌, length, get_or, take, sym, refl, ap, ◌∙◌, ap₂, arith}
 use Rattle.refusals.specs.Refusals.{refused}
 use Rattle.line_rules.specs.declared.Heard.TheVariants.{Nothing}
 use Rattle.line.specs.Readers.{reader_with}

@@ -1,5 +1,5 @@
 -- `line::feed_outside` meets its contract.
-use Rattle.std.proofs.Common.{sym, ◌∙◌, arith, rules}
+use Rattle.std.proofs.Common.{sym, ◌∙◌, arith}
 use Rattle.line_rules.proofs.RunLaws.{begins_at_once, stray_ends}
 use Rattle.line.proofs.Strays.{outside_all}
 use Rattle.line.proofs.feed_outside.Goals as goal

@@ -1,5 +1,5 @@
 -- `line::feed_whole` meets its contract.
-use Rattle.std.proofs.Common.{arith, rules}
+use Rattle.std.proofs.Common.{arith}
 use Rattle.line.proofs.Strays.{whole_fits, whole_read}
 use Rattle.line.proofs.feed_whole.Goals as goal
 

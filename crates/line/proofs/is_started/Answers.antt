@@ -1,6 +1,5 @@
 -- `line::is_started` meets its contract.
-use Rattle.std.proofs.Common.{◌≡◌, ◌+◌, ◌-◌, ◌≤◌, ◌&&◌, length, take, drop, sym, refl, ap, ◌∙◌, arith, rules, ltb-false, ltb-true, eq-eqb, ne_eqb}
-use borrow.Author.Tests.{not-true, not-false}
+use Rattle.std.proofs.Common.{◌≡◌, ◌+◌, ◌&&◌, length, take, drop, sym, refl, ap, ◌∙◌, arith, ltb-false, ltb-true, eq-eqb, ne_eqb}
 use Rattle.line_rules.specs.Line.{places, all_plain}
 use Rattle.line.proofs.Forms.{plain_step, plain_end, first_is}
 use Rattle.line.proofs.is_started.Goals as goal

@@ -1,8 +1,6 @@
 -- `line::is_started` meets its contract.
-use Rattle.std.proofs.Common.{◌≡◌, ◌+◌, ◌-◌, ◌≤◌, ◌&&◌, length, take, drop, sym, refl, ap, ◌∙◌, arith, rules, ltb-false, ltb-true, eq-eqb, ne_eqb}
-use borrow.Author.Tests.{not-true, not-false}
+use Rattle.std.proofs.Common.{◌≡◌, ◌-◌, ◌≤◌, take, drop}
 use Rattle.line_rules.specs.Line.{places, all_plain}
-use Rattle.line.proofs.Forms.{plain_step, plain_end, first_is}
 use Rattle.line.proofs.is_started.Given as goal
 
 abbrev pub invariant-loop-at : goal.invariant-loop-at

@@ -1,8 +1,7 @@
 -- `line::is_zero_from` meets its contract.
-use Rattle.std.proofs.Common.{◌≡◌, ◌+◌, ◌-◌, ◌&&◌, length, drop, sym, refl, ap, ◌∙◌, arith, rules, eq-eqb, ne_eqb}
+use Rattle.std.proofs.Common.{◌≡◌, ◌-◌, drop}
 use Rattle.line.specs.Readers.{all_zero}
 use Rattle.line_rules.specs.Line.{places}
-use Rattle.line.proofs.Forms.{zero_step, zero_end}
 use Rattle.line.proofs.is_zero_from.Given as goal
 
 abbrev pub invariant-loop-at : goal.invariant-loop-at

@@ -1,5 +1,5 @@
 -- `line::outside` meets its contract.
-use Rattle.std.proofs.Common.{[], ◌∙◌, arith, rules}
+use Rattle.std.proofs.Common.{[], ◌∙◌, arith}
 use Rattle.line.proofs.Forms.{reader_is}
 use Rattle.line.proofs.outside.Goals as goal
 

@@ -1,11 +1,8 @@
 -- `listing::append` meets its contract. The loop's invariant: with what is left of the word behind it, the text is whole.
-use mathlib.Core.Path.{◌≡◌, refl, sym, ◌∙◌}
+use mathlib.Core.Path.{◌≡◌}
 use Prim.Native.Nat.{◌-◌}
-use native.Mathlib.Omega.{arith}
 use lib.ListN.{length, drop}
-use borrow.Author.Rules.{rules}
 use Rattle.listing.specs.Texts.{text_of, appended}
-use Rattle.listing.proofs.TextLaws.{one_more, no_more_law}
 use Rattle.listing.proofs.append.Given as goal
 
 abbrev pub invariant-loop-at : goal.invariant-loop-at

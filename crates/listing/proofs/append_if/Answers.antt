@@ -1,6 +1,5 @@
 -- `listing::append_if` meets its contract.
 use Rattle.listing.specs.Texts.{appended}
-use borrow.Author.Rules.{rules}
 use Rattle.listing.proofs.append_if.Goals as goal
 
 pub returns-then-wanted : goal.returns-then-wanted

@@ -1,6 +1,5 @@
 -- `listing::four` meets its contract.
 use Rattle.listing.proofs.TextLaws.{behind}
-use borrow.Author.Rules.{rules}
 use Rattle.listing.proofs.four.Goals as goal
 
 pub returns : goal.returns

@@ -1,9 +1,7 @@
 -- `listing::lay` meets its contract. The loop's invariant: the first `at` bytes are laid.
-use mathlib.Core.Path.{◌≡◌, refl, ap, ◌∙◌}
-use mathlib.Core.List.{◌++◌}
-use Prim.Native.Nat.{◌-◌, ◌≤◌}
+use mathlib.Core.Path.{refl, ap, ◌∙◌}
 use native.Mathlib.Omega.{arith}
-use lib.ListN.{length, take, drop, get_or, set, length-set}
+use lib.ListN.{get_or, set, length-set}
 use Rattle.listing.proofs.TextLaws.{copy_step, no_room, all_laid}
 use Rattle.listing.proofs.lay.Goals as goal
 

@@ -1,10 +1,8 @@
 -- `listing::lay` meets its contract. The loop's invariant: the first `at` bytes are laid.
-use mathlib.Core.Path.{◌≡◌, refl, ap, ◌∙◌}
+use mathlib.Core.Path.{◌≡◌}
 use mathlib.Core.List.{◌++◌}
 use Prim.Native.Nat.{◌-◌, ◌≤◌}
-use native.Mathlib.Omega.{arith}
-use lib.ListN.{length, take, drop, get_or, set, length-set}
-use Rattle.listing.proofs.TextLaws.{copy_step, no_room, all_laid}
+use lib.ListN.{length, take, drop}
 use Rattle.listing.proofs.lay.Given as goal
 
 abbrev pub invariant-loop-at : goal.invariant-loop-at

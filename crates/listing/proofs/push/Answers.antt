@@ -1,7 +1,6 @@
 -- `listing::push` meets its contract.
 use borrow.Author.Tests.{lt-ltb, le-ltb}
 use Rattle.listing.specs.Texts.{pushed, appended}
-use borrow.Author.Rules.{rules}
 use Rattle.listing.proofs.push.Goals as goal
 
 pub returns-then-len-lt-TEXT_ROOM : goal.returns-then-len-lt-TEXT_ROOM

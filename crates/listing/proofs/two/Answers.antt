@@ -1,6 +1,5 @@
 -- `listing::two` meets its contract.
 use Rattle.listing.proofs.TextLaws.{behind, as_byte}
-use borrow.Author.Rules.{rules}
 use Rattle.listing.proofs.two.Goals as goal
 
 pub returns : goal.returns

@@ -1,14 +1,11 @@
 -- `listing_of_lines::list` meets its contract. The loop's invariant: the rows so far, and what the rest of the piece still gives.
 use native.Mathlib.Omega.{arith}
-use borrow.Author.Rules.{rules}
-use borrow.Author.Tests.{not-true, not-false}
 use mathlib.Core.Path.{ap, sym, ◌∙◌}
 use mathlib.Core.List.{◌++◌}
-use Prim.Native.Nat.{◌+◌, ◌-◌}
 use lib.ListN.{length, drop}
 use Rattle.listing_rules.specs.Answers.{row_answer}
 use Rattle.listing_of_lines.specs.Pages.{rows_in, listed_for}
-use Rattle.listing_of_lines.proofs.PageLaws.{Holds, none_listed, row_stands, row_stops, page_ends, page_refused, page_good}
+use Rattle.listing_of_lines.proofs.PageLaws.{none_listed, row_stands, row_stops, page_ends, page_refused, page_good}
 use Rattle.listing_of_lines.proofs.list.Goals as goal
 
 pub returns-then-not-is_well_formed : goal.returns-then-not-is_well_formed

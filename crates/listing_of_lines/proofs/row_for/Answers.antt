@@ -3,7 +3,6 @@ use mathlib.Core.Path.{ap, ◌∙◌}
 use Rattle.lent_buffer.specs.Laying.{laid}
 use Rattle.listing_of_lines.specs.Pages.{row_for}
 use Rattle.listing_of_lines.proofs.PageLaws.{nothing_laid, refused_laid}
-use borrow.Author.Rules.{rules}
 use Rattle.listing_of_lines.proofs.row_for.Goals as goal
 
 pub returns-in-Nothing : goal.returns-in-Nothing

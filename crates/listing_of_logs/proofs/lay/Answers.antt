@@ -1,10 +1,7 @@
 -- `listing_of_logs::lay` meets its contract. The loop's invariant: the first `at` bytes are laid.
-use mathlib.Core.Path.{◌≡◌, refl, ap, ◌∙◌}
-use mathlib.Core.List.{◌++◌}
-use Prim.Native.Nat.{◌-◌, ◌≤◌}
+use mathlib.Core.Path.{refl, ap, ◌∙◌}
 use native.Mathlib.Omega.{arith}
-use lib.ListN.{length, take, drop, get_or, set, length-set}
-use lib.Seq.{length-take-le}
+use lib.ListN.{get_or, set, length-set}
 use Rattle.listing.proofs.TextLaws.{copy_step}
 use Rattle.listing_of_logs.proofs.RowLaws.{first_short, first_laid}
 use Rattle.listing_of_logs.proofs.lay.Goals as goal

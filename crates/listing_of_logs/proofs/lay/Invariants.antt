@@ -1,12 +1,8 @@
 -- `listing_of_logs::lay` meets its contract. The loop's invariant: the first `at` bytes are laid.
-use mathlib.Core.Path.{◌≡◌, refl, ap, ◌∙◌}
+use mathlib.Core.Path.{◌≡◌}
 use mathlib.Core.List.{◌++◌}
 use Prim.Native.Nat.{◌-◌, ◌≤◌}
-use native.Mathlib.Omega.{arith}
-use lib.ListN.{length, take, drop, get_or, set, length-set}
-use lib.Seq.{length-take-le}
-use Rattle.listing.proofs.TextLaws.{copy_step}
-use Rattle.listing_of_logs.proofs.RowLaws.{first_short, first_laid}
+use lib.ListN.{length, take, drop}
 use Rattle.listing_of_logs.proofs.lay.Given as goal
 
 abbrev pub invariant-loop-at : goal.invariant-loop-at

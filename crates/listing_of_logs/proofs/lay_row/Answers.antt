@@ -5,7 +5,6 @@ use Rattle.lent_buffer.proofs.LayingLaws.{laid_refused}
 use Rattle.record_rules.specs.Answers.{record_answer}
 use Rattle.log_rules.specs.Good.{telegram_in}
 use Rattle.listing_of_logs.proofs.RowLaws.{row_read}
-use borrow.Author.Rules.{rules}
 use Rattle.listing_of_logs.proofs.lay_row.Goals as goal
 
 pub returns-in-Good : goal.returns-in-Good

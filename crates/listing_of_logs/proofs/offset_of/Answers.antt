@@ -1,7 +1,6 @@
 -- `listing_of_logs::offset_of` meets its contract.
 use native.Mathlib.Omega.{arith}
 use Rattle.listing_of_logs.specs.LogPages.{offset_of}
-use borrow.Author.Rules.{rules}
 use Rattle.listing_of_logs.proofs.offset_of.Goals as goal
 
 pub returns : goal.returns

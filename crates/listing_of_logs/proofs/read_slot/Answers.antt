@@ -4,7 +4,6 @@ use native.Mathlib.Omega.{arith}
 use mathlib.Core.Bool.{true}
 use Rattle.telegram_rules.specs.Reading.{read_of}
 use Rattle.listing_of_logs.proofs.RowLaws.{slot_part}
-use borrow.Author.Rules.{rules}
 use Rattle.listing_of_logs.proofs.read_slot.Goals as goal
 
 pub overflow_add-size : goal.overflow_add-size

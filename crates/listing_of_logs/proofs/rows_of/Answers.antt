@@ -1,7 +1,5 @@
 -- `listing_of_logs::rows_of` meets its contract.
 use mathlib.Core.Path.{refl, ap, sym, ◌∙◌}
-use borrow.Author.Tests.{not-true, not-false}
-use borrow.Author.Rules.{rules}
 use Rattle.refusals.specs.Refusals.{done}
 use Rattle.lent_buffer.specs.Laying.{laid}
 use Rattle.listing_of_logs.proofs.RowLaws.{rows_good, rows_bad}

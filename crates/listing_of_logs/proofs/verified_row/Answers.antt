@@ -1,8 +1,6 @@
 -- `listing_of_logs::verified_row` meets its contract.
 use mathlib.Core.Path.{ap, sym, ◌∙◌}
 use native.Mathlib.Omega.{arith}
-use borrow.Author.Tests.{not-true, not-false}
-use borrow.Author.Rules.{rules}
 use lib.ListN.{get_or}
 use Rattle.refusals.specs.Refusals.{done}
 use Rattle.lent_buffer.specs.Laying.{laid}

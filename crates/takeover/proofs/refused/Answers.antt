@@ -1,6 +1,5 @@
 -- `takeover::refused` meets its contract.
 use mathlib.Core.Path.{ap}
-use borrow.Author.Rules.{rules}
 use Rattle.line.specs.declared.Reader.{Reader}
 use Rattle.takeover.proofs.refused.Goals as goal
 

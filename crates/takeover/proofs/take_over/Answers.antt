@@ -1,8 +1,6 @@
 -- `takeover::take_over` meets its contract.
 use mathlib.Core.Path.{ap, sym, ◌∙◌}
 use native.Mathlib.Omega.{arith}
-use borrow.Author.Rules.{rules}
-use borrow.Author.Tests.{not-true, not-false}
 use Rattle.line.specs.declared.Reader.{Reader}
 use Rattle.takeover.proofs.TakingOverLaws.{by_the_reader, too_many, takes, refuses}
 use Rattle.takeover.proofs.take_over.Goals as goal

@@ -1,9 +1,9 @@
 -- `takeover::with_more_places` meets its contract. The loop's invariant: the bytes copied so far, and zeros behind all that are to be.
 use mathlib.Core.Path.{◌≡◌, refl, ap, ap₂, sym, ◌∙◌, subst}
 use mathlib.Core.List.{◌++◌}
-use Prim.Native.Nat.{◌-◌, ◌≤◌}
+use Prim.Native.Nat.{◌-◌}
 use native.Mathlib.Omega.{arith}
-use lib.ListN.{length, take, drop, get_or, replicate, length-map, length-set, take-append-drop}
+use lib.ListN.{length, take, get_or, replicate, length-set, take-append-drop}
 use lib.Seq.{take_all, drop-set-lt}
 use Rattle.lent_buffer.proofs.CopyLaws.{copy_step}
 use Rattle.line.specs.Readers.{reader_with}

@@ -1,12 +1,7 @@
 -- `takeover::with_more_places` meets its contract. The loop's invariant: the bytes copied so far, and zeros behind all that are to be.
-use mathlib.Core.Path.{◌≡◌, refl, ap, ap₂, sym, ◌∙◌, subst}
-use mathlib.Core.List.{◌++◌}
+use mathlib.Core.Path.{◌≡◌}
 use Prim.Native.Nat.{◌-◌, ◌≤◌}
-use native.Mathlib.Omega.{arith}
-use lib.ListN.{length, take, drop, get_or, replicate, length-map, length-set, take-append-drop}
-use lib.Seq.{take_all, drop-set-lt}
-use Rattle.lent_buffer.proofs.CopyLaws.{copy_step}
-use Rattle.line.specs.Readers.{reader_with}
+use lib.ListN.{length, take, drop, replicate}
 use Rattle.line_rules.specs.Line.{places}
 use Rattle.takeover.specs.TakingOver.{kept_places}
 use Rattle.takeover.proofs.with_more_places.Given as goal

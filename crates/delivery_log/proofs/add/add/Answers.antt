@@ -1,7 +1,6 @@
 -- `log::add::add` meets its contract.
 use mathlib.Core.Path.{◌≡◌, ap, ap₂, sym, ◌∙◌}
 use mathlib.Core.Bool.{true}
-use borrow.Author.Rules.{rules}
 use Rattle.record_rules.specs.Answers.{record_answer}
 use Rattle.log_rules.specs.Good.{is_done, reads_well}
 use Rattle.log_rules.proofs.AddLaws.{add_is, own_refusal, reads_place}

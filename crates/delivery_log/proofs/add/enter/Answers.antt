@@ -1,16 +1,14 @@
 -- `log::add::enter` meets its contract.
-use mathlib.Core.Path.{◌≡◌, ap, sym, ◌∙◌}
+use mathlib.Core.Path.{◌≡◌, ◌∙◌}
 use mathlib.Core.List.{List}
 use Prim.Native.Nat.{ℕ, ◌+◌, ◌*◌, ◌-◌, ◌<◌}
 use native.Mathlib.Omega.{arith}
 use lib.ListN.{length, take, drop, set, length-set, length-take, length-drop}
-use borrow.Author.Rules.{rules}
 use borrow.Rule.Slice.PartMut.{put_mid}
 use Rattle.log_rules.specs.Block.{slots, slot_size, count_place, check_place, block_size, sealed}
 use Rattle.log_rules.specs.Good.{count_in}
 use Rattle.log_rules.specs.Add.{entered}
 use Rattle.log_rules.proofs.BlockLaws.{reads_short, good_length}
-use Rattle.log_rules.proofs.EnterLaws.{entered_length}
 use Rattle.log_rules.proofs.LayLaws.{back_length, sealed_again}
 use Rattle.delivery_log.proofs.add.enter.Goals as goal
 

@@ -1,15 +1,12 @@
 -- `log::add::find_place` meets its contract. The loop's invariant: what is found so far leads on to what the whole search finds.
-use native.Mathlib.Omega.{arith}
-use mathlib.Core.Path.{◌≡◌, sym, ◌∙◌}
+use mathlib.Core.Path.{◌≡◌}
 use Prim.Native.Nat.{◌*◌, ◌-◌}
 use lib.ListN.{drop}
-use borrow.Author.Tests.{eq-eqb, ne_eqb}
 use Rattle.log_rules.specs.Block.{block_size}
 use Rattle.log_rules.specs.Region.{blocks_from}
 use Rattle.log_rules.specs.Add.{place_in}
 use Rattle.log_rules.specs.Answers.{add_answer}
 use Rattle.log_rules.specs.Tests.{place_then}
-use Rattle.log_rules.proofs.PlaceLaws.{place_broken, search_starts, search_turn, search_ends}
 use Rattle.delivery_log.proofs.add.find_place.Given as goal
 
 abbrev pub invariant-loop-at : goal.invariant-loop-at

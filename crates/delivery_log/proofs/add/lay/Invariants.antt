@@ -1,10 +1,8 @@
 -- `log::add::lay` meets its contract. The loop's invariant: the first `at` bytes of the telegram stand behind the length byte.
-use mathlib.Core.Path.{◌≡◌, refl, ap, ◌∙◌}
-use Prim.Native.Nat.{◌+◌, ◌-◌, ◌≤◌, ◌<◌}
-use native.Mathlib.Omega.{arith}
-use lib.ListN.{length, get_or, set, length-set}
-use lib.Seq.{paste, paste-zero}
-use Rattle.log_rules.proofs.LayLaws.{paste_next, slot_laid}
+use mathlib.Core.Path.{◌≡◌}
+use Prim.Native.Nat.{◌-◌, ◌≤◌}
+use lib.ListN.{length}
+use lib.Seq.{paste}
 use Rattle.delivery_log.proofs.add.lay.Given as goal
 
 abbrev pub invariant-loop-at : goal.invariant-loop-at

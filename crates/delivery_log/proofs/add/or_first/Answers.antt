@@ -1,5 +1,4 @@
 -- `log::add::or_first` meets its contract.
-use borrow.Author.Rules.{rules}
 use Rattle.delivery_log.proofs.add.or_first.Goals as goal
 
 pub returns-in-Added : goal.returns-in-Added

@@ -1,8 +1,7 @@
 -- `log::add::place_with` meets its contract: a bad block changes nothing; of a good one its count decides.
 use native.Mathlib.Omega.{arith}
 use mathlib.Core.Path.{sym, ◌∙◌}
-use borrow.Author.Rules.{rules}
-use borrow.Author.Tests.{lt-ltb, le-ltb, eq-eqb, ne_eqb, not-true, not-false}
+use borrow.Author.Tests.{lt-ltb, le-ltb, eq-eqb, ne_eqb}
 use Rattle.log_rules.proofs.BlockLaws.{good_length}
 use Rattle.delivery_log.proofs.add.place_with.Goals as goal
 

@@ -3,7 +3,6 @@ use mathlib.Core.Path.{sym}
 use native.Mathlib.Omega.{arith}
 use lib.ListN.{take}
 use lib.Seq.{length-take-le}
-use borrow.Author.Rules.{rules}
 use Rattle.log_rules.specs.Block.{check_place}
 use Rattle.log_rules.proofs.SealLaws.{check_small, laid}
 use Rattle.delivery_log.proofs.add.seal.Goals as goal

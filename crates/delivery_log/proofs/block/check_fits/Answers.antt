@@ -2,7 +2,6 @@
 use mathlib.Core.Path.{sym}
 use native.Mathlib.Omega.{arith}
 use lib.Seq.{length-take-le}
-use borrow.Author.Rules.{rules}
 use Rattle.log_rules.specs.Block.{check_place}
 use Rattle.log_rules.proofs.SealLaws.{other_low, same_low}
 use Rattle.delivery_log.proofs.block.check_fits.Goals as goal

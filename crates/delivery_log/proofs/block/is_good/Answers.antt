@@ -1,9 +1,6 @@
 -- `log::block::is_good` meets its contract.
 use mathlib.Core.Path.{◌≡◌, sym, ◌∙◌}
 use mathlib.Core.Bool.{◌&&◌}
-use native.Mathlib.Omega.{arith}
-use borrow.Author.Rules.{rules}
-use borrow.Author.Tests.{not-true, not-false}
 use Rattle.log_rules.specs.Good.{count_in, is_good}
 use Rattle.log_rules.specs.Tests.{slots_fit, check_fits}
 use Rattle.log_rules.proofs.TestLaws.{zeros_to_count, zeros_to_check, by_parts, bad_size, bad_count_law}

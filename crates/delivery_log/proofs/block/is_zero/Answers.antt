@@ -1,10 +1,7 @@
 -- `log::block::is_zero` meets its contract. The loop's invariant: what is left is zero exactly when all is.
 use native.Mathlib.Omega.{arith}
-use mathlib.Core.Path.{◌≡◌, refl, sym, ◌∙◌}
-use Prim.Native.Nat.{◌-◌}
-use lib.ListN.{drop}
+use mathlib.Core.Path.{refl, sym, ◌∙◌}
 use borrow.Author.Tests.{eq-eqb, ne_eqb}
-use Rattle.log_rules.specs.Tests.{all_zero}
 use Rattle.log_rules.proofs.SameLaws.{zero_turn, zero_end}
 use Rattle.delivery_log.proofs.block.is_zero.Goals as goal
 

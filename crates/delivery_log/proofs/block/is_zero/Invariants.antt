@@ -1,11 +1,8 @@
 -- `log::block::is_zero` meets its contract. The loop's invariant: what is left is zero exactly when all is.
-use native.Mathlib.Omega.{arith}
-use mathlib.Core.Path.{◌≡◌, refl, sym, ◌∙◌}
+use mathlib.Core.Path.{◌≡◌}
 use Prim.Native.Nat.{◌-◌}
 use lib.ListN.{drop}
-use borrow.Author.Tests.{eq-eqb, ne_eqb}
 use Rattle.log_rules.specs.Tests.{all_zero}
-use Rattle.log_rules.proofs.SameLaws.{zero_turn, zero_end}
 use Rattle.delivery_log.proofs.block.is_zero.Given as goal
 
 abbrev pub invariant-loop-at : goal.invariant-loop-at

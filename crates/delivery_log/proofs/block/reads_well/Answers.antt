@@ -1,6 +1,5 @@
 -- `log::block::reads_well` meets its contract.
 use mathlib.Core.Path.{ap, sym, ◌∙◌}
-use borrow.Author.Rules.{rules}
 use Rattle.record_rules.specs.Answers.{record_answer}
 use Rattle.log_rules.specs.Good.{is_done, reads_well}
 use Rattle.delivery_log.proofs.block.reads_well.Goals as goal

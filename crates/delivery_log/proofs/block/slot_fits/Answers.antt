@@ -1,8 +1,5 @@
 -- `log::block::slot_fits` meets its contract.
 use mathlib.Core.Path.{sym, ◌∙◌}
-use native.Mathlib.Omega.{arith}
-use borrow.Author.Rules.{rules}
-use borrow.Author.Tests.{not-true, not-false}
 use Rattle.log_rules.proofs.SlotLaws.{other_size, long_telegram, by_size}
 use Rattle.delivery_log.proofs.block.slot_fits.Goals as goal
 

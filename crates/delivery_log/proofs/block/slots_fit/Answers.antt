@@ -1,12 +1,7 @@
 -- `log::block::slots_fit` meets its contract. The loop's invariant: the slots that are left fit exactly when all do.
-use mathlib.Core.Path.{◌≡◌, ap, sym, ◌∙◌}
-use Prim.Native.Nat.{◌*◌, ◌-◌}
+use mathlib.Core.Path.{ap, sym, ◌∙◌}
 use native.Mathlib.Nat.{sub-zero}
 use native.Mathlib.Omega.{arith}
-use lib.ListN.{drop}
-use borrow.Author.Rules.{rules}
-use borrow.Author.Tests.{not-true, not-false}
-use Rattle.log_rules.specs.Block.{slot_size}
 use Rattle.log_rules.specs.Tests.{slots_fit}
 use Rattle.log_rules.proofs.SlotLaws.{slots_turn, slots_end}
 use Rattle.delivery_log.proofs.block.slots_fit.Goals as goal

@@ -1,9 +1,8 @@
 -- `log::read_back::locate` meets its contract.
 use mathlib.Core.Path.{◌≡◌, refl, ap, sym, ◌∙◌}
-use Prim.Native.Nat.{◌+◌, ◌*◌, ◌<◌}
+use Prim.Native.Nat.{◌<◌}
 use native.Mathlib.Omega.{arith}
-use borrow.Author.Rules.{rules}
-use borrow.Author.Tests.{eq-eqb, ne_eqb, not-true, not-false}
+use borrow.Author.Tests.{eq-eqb, ne_eqb}
 use Rattle.log_rules.specs.Block.{slots}
 use Rattle.log_rules.specs.Good.{is_good}
 use Rattle.log_rules.proofs.RegionLaws.{block_part}

@@ -1,9 +1,7 @@
 -- `log::read_back::read_back` meets its contract.
-use mathlib.Core.Path.{refl}
 use Prim.Native.Nat.{◌+◌, ◌≤◌}
 use native.Mathlib.Omega.{arith}
 use lib.ListN.{length}
-use borrow.Author.Rules.{rules}
 use Rattle.delivery_log.proofs.HandOutLaws.{part_fits, telegram_out, nothing_out}
 use Rattle.delivery_log.proofs.read_back.read_back.Goals as goal
 

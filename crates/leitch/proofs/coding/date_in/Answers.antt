@@ -1,7 +1,6 @@
 -- `leitch::coding::date_in` meets its contract.
 use mathlib.Core.Path.{◌∙◌, ap}
 use Rattle.layouts_rules.specs.Coding.{full_year}
-use borrow.Author.Rules.{rules}
 use Rattle.leitch.proofs.coding.date_in.Goals as goal
 
 pub returns : goal.returns

@@ -1,5 +1,4 @@
 -- `leitch::coding::digits_out` meets its contract.
-use borrow.Author.Rules.{rules}
 use Rattle.leitch.proofs.coding.digits_out.Goals as goal
 
 pub returns : goal.returns

@@ -1,6 +1,5 @@
 -- `leitch::coding::full_year` meets its contract.
 use borrow.Author.Tests.{lt-ltb, le-ltb}
-use borrow.Author.Rules.{rules}
 use Rattle.leitch.proofs.coding.full_year.Goals as goal
 
 pub returns-then-year-lt80 : goal.returns-then-year-lt80

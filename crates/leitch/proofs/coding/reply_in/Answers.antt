@@ -1,5 +1,4 @@
 -- `leitch::coding::reply_in` meets its contract.
-use borrow.Author.Rules.{rules}
 use Rattle.leitch.proofs.coding.reply_in.Goals as goal
 
 pub returns : goal.returns

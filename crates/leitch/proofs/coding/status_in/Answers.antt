@@ -2,7 +2,6 @@
 use mathlib.Core.Path.{ap}
 use lib.ListN.{get_or}
 use Rattle.places_rules.specs.Places.{place, render, over}
-use borrow.Author.Rules.{rules}
 use Rattle.leitch.proofs.coding.status_in.Goals as goal
 
 pub returns : goal.returns

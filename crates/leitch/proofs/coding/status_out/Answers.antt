@@ -2,7 +2,6 @@
 use mathlib.Core.Path.{ap}
 use lib.ListN.{get_or}
 use Rattle.places_rules.specs.Places.{place, found_in}
-use borrow.Author.Rules.{rules}
 use Rattle.leitch.proofs.coding.status_out.Goals as goal
 
 pub returns : goal.returns

@@ -1,6 +1,5 @@
 -- `leitch::coding::time_in` meets its contract: a 6021t carries this time.
 use mathlib.Core.Path.{sym, ◌∙◌}
-use borrow.Author.Rules.{rules}
 use Rattle.leitch.proofs.coding.time_in.Goals as goal
 
 pub returns-in-TimeOnly : goal.returns-in-TimeOnly

@@ -1,7 +1,6 @@
 -- `leitch::read::read` meets its contract: each way it ends is a law of the definition.
 use mathlib.Core.Path.{sym, ◌∙◌}
 use Rattle.leitch_rules.proofs.ReadLaws.{ends_by_length, ends_in_row, ends_refused, ends_disagreeing, ends_good}
-use borrow.Author.Rules.{rules}
 use Rattle.leitch.proofs.read.read.Goals as goal
 
 pub returns-then-bytes-ne-PLACES : goal.returns-then-bytes-ne-PLACES

@@ -5,7 +5,6 @@ use Rattle.refusals.proofs.Laws.{was_done, was_refused, refused_some, else_some}
 use Rattle.calendar_rules.specs.Answers.{day_answer}
 use Rattle.calendar_rules.specs.Calendar.{day_number, day_of, date_refusal, weekday_of}
 use Rattle.leitch_rules.specs.Rule.{weekday_agrees}
-use borrow.Author.Rules.{rules}
 use Rattle.leitch.proofs.rule.date_refusal.Goals as goal
 
 pub returns-then-weekday : goal.returns-then-weekday

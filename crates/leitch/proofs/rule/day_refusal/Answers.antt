@@ -3,7 +3,6 @@ use mathlib.Core.Path.{sym, ap, ◌∙◌}
 use borrow.Author.Tests.{eq-eqb, ne_eqb}
 use Rattle.calendar_rules.specs.Answers.{year_day_answer}
 use Rattle.leitch_rules.specs.Rule.{day_agrees, day_refusal}
-use borrow.Author.Rules.{rules}
 use Rattle.leitch.proofs.rule.day_refusal.Goals as goal
 
 pub returns-then-day-reply : goal.returns-then-day-reply

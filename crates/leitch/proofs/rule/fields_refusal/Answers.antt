@@ -1,10 +1,9 @@
 -- `leitch::rule::fields_refusal` meets its contract.
 use mathlib.Core.Bool.{and-false}
 use mathlib.Core.Path.{sym, ◌∙◌}
-use borrow.Author.Tests.{not-true, not-false, le-leb, lt-leb}
+use borrow.Author.Tests.{le-leb, lt-leb}
 use Rattle.leitch_rules.specs.Rule.{weekday_listed, all_in_range, fields_refusal}
 use Rattle.leitch_rules.proofs.RuleLaws.{date_decides}
-use borrow.Author.Rules.{rules}
 use Rattle.leitch.proofs.rule.fields_refusal.Goals as goal
 
 pub returns-then-not-status_listed : goal.returns-then-not-status_listed

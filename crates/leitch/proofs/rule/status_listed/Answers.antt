@@ -1,7 +1,6 @@
 -- `leitch::rule::status_listed` meets its contract.
 use mathlib.Core.Path.{sym, ◌∙◌}
 use Rattle.leitch_rules.specs.Rule.{status_listed}
-use borrow.Author.Rules.{rules}
 use Rattle.leitch.proofs.rule.status_listed.Goals as goal
 
 pub returns-then-inside : goal.returns-then-inside

@@ -1,7 +1,6 @@
 -- `leitch::write::write` meets its contract: each way it ends is a law of the definition.
 use mathlib.Core.Path.{sym, ◌∙◌}
 use Rattle.leitch_rules.proofs.WriteLaws.{ends_refused, ends_short, ends_disagreeing, ends_written}
-use borrow.Author.Rules.{rules}
 use Rattle.leitch.proofs.write.write.Goals as goal
 
 pub returns-then-refused-ne-NONE : goal.returns-then-refused-ne-NONE

@@ -1,6 +1,4 @@
-use Rattle.std.proofs.Common.{◌≡◌, length, sym, ◌∙◌, arith, rules}
-use borrow.Author.Tests.{not-true, not-false}
-use lib.ListN.{length-map}
+use Rattle.std.proofs.Common.{◌≡◌, length, sym, ◌∙◌, arith}
 use Rattle.record_rules.specs.declared.RecordAnswer.TheVariants as answer
 use Rattle.line_rules.specs.declared.Heard.TheVariants.{Nothing, Event}
 use Rattle.line_rules.specs.Line.{places}

@@ -1,6 +1,4 @@
-use Rattle.std.proofs.Common.{◌≡◌, length, sym, ap, ◌∙◌, arith, rules}
-use lib.ListN.{length-map}
-use borrow.Author.Tests.{not-true, not-false}
+use Rattle.std.proofs.Common.{◌≡◌, length, sym, ap, ◌∙◌, arith}
 use Rattle.line.specs.Readers.{feed_reader}
 use Rattle.line_rules.specs.Line.{places}
 use Rattle.line.proofs.ReaderLaws.{feed_refused, outside_back}

@@ -1,6 +1,5 @@
-use Rattle.std.proofs.Common.{◌≡◌, length, take, sym, ◌∙◌, arith, rules, le-leb}
-use lib.ListN.{length-map}
-use borrow.Author.Tests.{lt-leb, not-true, not-false}
+use Rattle.std.proofs.Common.{◌≡◌, length, take, sym, ◌∙◌, arith, le-leb}
+use borrow.Author.Tests.{lt-leb}
 use Rattle.line.specs.Readers.{well_formed_at}
 use Rattle.line_rules.specs.Line.{places}
 use Rattle.line.proofs.Forms.{start_is, taken_length}

@@ -1,5 +1,5 @@
 -- `line::judge::judge` meets its contract. The loop's invariant: the bytes copied so far.
-use Rattle.std.proofs.Common.{◌≡◌, ◌+◌, ◌-◌, ◌≤◌, length, get_or, take, refl, ap, ◌∙◌, subst, arith, length-set, rules}
+use Rattle.std.proofs.Common.{◌≡◌, ◌+◌, ◌-◌, length, get_or, take, refl, ap, ◌∙◌, subst, arith, length-set}
 use Rattle.telegram_rules.specs.Reading.{read_in}
 use Rattle.ascii.specs.Control.{etx}
 use Rattle.line_rules.specs.Line.{places}

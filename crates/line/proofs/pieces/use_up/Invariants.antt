@@ -1,7 +1,7 @@
 -- `line::pieces::use_up` meets its contract. The loop's invariant: the events so far, and what the rest of the piece still gives.
-use Rattle.std.proofs.Common.{◌≡◌, ◌-◌, ◌<◌, ◌≤◌, length, take, drop, sym, refl, ap, ◌∙◌, arith, length-drop, length-set, length-take, rules}
-use Rattle.line.specs.Pieces.{room, pass_on, passing, slot_of, passed_for}
-use Rattle.line.proofs.PieceLaws.{feed_fits, behind, Empty, at_first, still_empty, ends_with, goes_on, full_ends}
+use Rattle.std.proofs.Common.{◌≡◌, ◌-◌, ◌≤◌, length, drop}
+use Rattle.line.specs.Pieces.{room, passing, passed_for}
+use Rattle.line.proofs.PieceLaws.{behind, Empty}
 use Rattle.line.proofs.pieces.use_up.Given as goal
 
 abbrev pub invariant-loop-count : goal.invariant-loop-count

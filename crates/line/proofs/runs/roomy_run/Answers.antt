@@ -1,6 +1,5 @@
 -- `line::runs::roomy_run` meets its contract. The loop's invariant: what was counted and what is left is the whole.
-use Rattle.std.proofs.Common.{◌≡◌, ◌+◌, ◌-◌, ◌<◌, ◌≤◌, length, drop, sym, ap, ◌∙◌, add-zero, arith, rules}
-use borrow.Author.Tests.{not-true, not-false}
+use Rattle.std.proofs.Common.{◌≡◌, ◌+◌, ◌<◌, length, drop, sym, ap, ◌∙◌, add-zero, arith}
 use Rattle.line_rules.specs.Runs.{roomy_run}
 use Rattle.line_rules.specs.Line.{places}
 use Rattle.line_rules.proofs.RunLaws.{run_on, run_stops, run_over}

@@ -1,5 +1,5 @@
 -- `line::skip::begins_with_stx` meets its contract.
-use Rattle.std.proofs.Common.{sym, rules}
+use Rattle.std.proofs.Common.{sym}
 use Rattle.line_rules.proofs.RunLaws.{begins_empty, begins_byte}
 use Rattle.line.proofs.skip.begins_with_stx.Goals as goal
 

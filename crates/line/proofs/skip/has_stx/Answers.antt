@@ -1,7 +1,6 @@
 -- `line::skip::has_stx` meets its contract. The loop's invariant: what was found and what is left make the whole.
-use Rattle.std.proofs.Common.{◌≡◌, ◌-◌, ◌||◌, drop, sym, refl, ap, ◌∙◌, arith}
+use Rattle.std.proofs.Common.{◌||◌, sym, refl, ap, ◌∙◌, arith}
 use mathlib.Core.Bool.{or_assoc, or-false}
-use Rattle.line_rules.specs.Runs.{has_stx}
 use Rattle.line_rules.proofs.RunLaws.{stx_end, stx_byte}
 use Rattle.line.proofs.skip.has_stx.Goals as goal
 

@@ -1,6 +1,5 @@
 -- `line::skip::stray_blocks` meets its contract. The loop's invariant: what was skipped and what is left is the whole.
-use Rattle.std.proofs.Common.{◌≡◌, ◌+◌, ◌-◌, ◌≤◌, drop, sym, ◌∙◌, arith, rules}
-use Rattle.line_rules.specs.Runs.{stray_run}
+use Rattle.std.proofs.Common.{sym, ◌∙◌, arith}
 use Rattle.line_rules.proofs.RunLaws.{stray_block}
 use Rattle.line.proofs.skip.stray_blocks.Goals as goal
 

@@ -1,7 +1,6 @@
 -- `line::skip::stray_bytes` meets its contract. The loop's invariant: what was counted and what is left is the whole.
-use Rattle.std.proofs.Common.{◌≡◌, suc, ◌+◌, ◌-◌, cond, length, drop, ap, ◌∙◌, arith, eq-eqb, ne_eqb}
+use Rattle.std.proofs.Common.{◌≡◌, ◌+◌, ◌-◌, drop}
 use Rattle.line_rules.specs.Runs.{stray_run}
-use Rattle.line_rules.proofs.RunLaws.{stray_end, stray_byte}
 use Rattle.line.proofs.skip.stray_bytes.Given as goal
 
 abbrev pub invariant-loop-at : goal.invariant-loop-at

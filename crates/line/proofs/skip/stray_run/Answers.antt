@@ -1,5 +1,5 @@
 -- `line::skip::stray_run` meets its contract: the bytes behind the blocks are the rest of the run.
-use Rattle.std.proofs.Common.{◌≡◌, ℕ, ◌+◌, ◌-◌, ◌≤◌, List, length, take, drop, ap, arith, length-drop, take_all, rules}
+use Rattle.std.proofs.Common.{◌≡◌, ℕ, ◌+◌, ◌-◌, ◌≤◌, List, length, take, drop, ap, arith, length-drop, take_all}
 use Rattle.line_rules.specs.Runs.{stray_run}
 use Rattle.line_rules.proofs.RunLaws.{stray_ends}
 use Rattle.line.proofs.skip.stray_run.Goals as goal

@@ -5,7 +5,6 @@ use Rattle.listing.specs.Texts.{text_of}
 use Rattle.listing_rules.specs.LogRows.{bad_count}
 use Rattle.listing.proofs.TextLaws.{behind, Holds, holds, stands, row_laid}
 use Rattle.listing_rules.proofs.LogRowLaws.{bad_count_short}
-use borrow.Author.Rules.{rules}
 use Rattle.listing.proofs.log_rows.bad_line.Goals as goal
 
 pub slice_bounds-lay-end : goal.slice_bounds-lay-end

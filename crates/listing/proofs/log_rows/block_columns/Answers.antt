@@ -1,6 +1,5 @@
 -- `listing::log_rows::block_columns` meets its contract.
 use Rattle.listing.proofs.TextLaws.{behind}
-use borrow.Author.Rules.{rules}
 use Rattle.listing.proofs.log_rows.block_columns.Goals as goal
 
 pub returns : goal.returns

@@ -1,6 +1,5 @@
 -- `listing::log_rows::header` meets its contract.
 use Rattle.listing_rules.specs.LogRows.{log_header}
-use borrow.Author.Rules.{rules}
 use Rattle.listing.proofs.log_rows.header.Goals as goal
 
 pub returns : goal.returns

@@ -7,7 +7,6 @@ use Rattle.listing_rules.specs.LogRows.{slot_row}
 use Rattle.listing.proofs.TextLaws.{behind, Holds, holds, stands, row_laid}
 use Rattle.listing_rules.proofs.RowLaws.{rule_refuses, rule_passes}
 use Rattle.listing_rules.proofs.LogRowLaws.{slot_short}
-use borrow.Author.Rules.{rules}
 use Rattle.listing.proofs.log_rows.slot_row.Goals as goal
 
 pub returns-then-refused-ne-NONE : goal.returns-then-refused-ne-NONE

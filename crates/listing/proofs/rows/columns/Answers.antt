@@ -1,5 +1,4 @@
 -- `listing::rows::columns` meets its contract.
-use borrow.Author.Rules.{rules}
 use Rattle.listing.proofs.rows.columns.Goals as goal
 
 pub returns-in-Dated : goal.returns-in-Dated

@@ -1,6 +1,5 @@
 -- `listing::rows::date_column` meets its contract.
 use Rattle.listing.proofs.TextLaws.{behind}
-use borrow.Author.Rules.{rules}
 use Rattle.listing.proofs.rows.date_column.Goals as goal
 
 pub returns : goal.returns

@@ -1,7 +1,6 @@
 -- `listing::rows::dated_columns` meets its contract.
 use Rattle.listing.proofs.TextLaws.{behind, as_byte}
 use Rattle.listing_rules.specs.Listing.{dated_columns}
-use borrow.Author.Rules.{rules}
 use Rattle.listing.proofs.rows.dated_columns.Goals as goal
 
 pub returns : goal.returns

@@ -1,5 +1,4 @@
 -- `listing::rows::dated_kind` meets its contract.
-use borrow.Author.Rules.{rules}
 use Rattle.listing.proofs.rows.dated_kind.Goals as goal
 
 pub returns-in-L6021 : goal.returns-in-L6021

@@ -1,6 +1,5 @@
 -- `listing::rows::header` meets its contract.
 use Rattle.listing_rules.specs.Listing.{header_row}
-use borrow.Author.Rules.{rules}
 use Rattle.listing.proofs.rows.header.Goals as goal
 
 pub returns : goal.returns

@@ -1,5 +1,4 @@
 -- `listing::rows::reception_word` meets its contract.
-use borrow.Author.Rules.{rules}
 use Rattle.listing.proofs.rows.reception_word.Goals as goal
 
 pub returns-in-Invalid : goal.returns-in-Invalid

@@ -3,7 +3,6 @@ use mathlib.Core.Path.{ap, ◌∙◌}
 use Rattle.lent_buffer.specs.Laying.{laid}
 use Rattle.listing_rules.specs.Listing.{record_row, event_row}
 use Rattle.listing_rules.proofs.RowLaws.{rule_refuses, rule_passes}
-use borrow.Author.Rules.{rules}
 use Rattle.listing.proofs.rows.row.Goals as goal
 
 pub returns-then-refused-ne-NONE : goal.returns-then-refused-ne-NONE

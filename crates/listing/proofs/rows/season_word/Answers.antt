@@ -1,5 +1,4 @@
 -- `listing::rows::season_word` meets its contract.
-use borrow.Author.Rules.{rules}
 use Rattle.listing.proofs.rows.season_word.Goals as goal
 
 pub returns-then-daylight : goal.returns-then-daylight

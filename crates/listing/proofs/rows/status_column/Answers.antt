@@ -1,7 +1,6 @@
 -- `listing::rows::status_column` meets its contract.
 use Rattle.listing.proofs.TextLaws.{behind}
 use Rattle.listing_rules.specs.Listing.{status_column}
-use borrow.Author.Rules.{rules}
 use Rattle.listing.proofs.rows.status_column.Goals as goal
 
 pub returns : goal.returns

@@ -5,7 +5,6 @@ use Rattle.listing.specs.Texts.{text_of}
 use Rattle.listing_rules.specs.Listing.{stray_row}
 use Rattle.listing.proofs.TextLaws.{behind, Holds, holds, stands, row_laid}
 use Rattle.listing_rules.proofs.RowLaws.{stray_short}
-use borrow.Author.Rules.{rules}
 use Rattle.listing.proofs.rows.stray_line.Goals as goal
 
 pub slice_bounds-lay-end : goal.slice_bounds-lay-end

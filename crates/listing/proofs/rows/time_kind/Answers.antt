@@ -1,5 +1,4 @@
 -- `listing::rows::time_kind` meets its contract.
-use borrow.Author.Rules.{rules}
 use Rattle.listing.proofs.rows.time_kind.Goals as goal
 
 pub returns-in-T6021 : goal.returns-in-T6021

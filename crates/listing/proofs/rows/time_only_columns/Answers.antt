@@ -1,7 +1,6 @@
 -- `listing::rows::time_only_columns` meets its contract.
 use Rattle.listing.proofs.TextLaws.{behind}
 use Rattle.listing_rules.specs.Listing.{time_only_columns}
-use borrow.Author.Rules.{rules}
 use Rattle.listing.proofs.rows.time_only_columns.Goals as goal
 
 pub returns : goal.returns

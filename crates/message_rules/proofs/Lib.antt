@@ -1,0 +1,4 @@
+pub mod StampLaws
+pub mod PlainLaws
+pub mod NumberLaws
+pub mod MessageLaws

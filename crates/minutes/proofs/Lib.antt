@@ -1,0 +1,2 @@
+pub mod MinutesLaws
+mod SignedLaws

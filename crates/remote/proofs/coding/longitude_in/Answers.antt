@@ -1,0 +1,6 @@
+-- `remote::coding::longitude_in` meets its contract.
+use borrow.Author.Rules.{rules}
+use Rattle.remote.proofs.coding.longitude_in.Goals as goal
+
+pub returns : goal.returns
+returns c = rw (c.pair-3.ensures, c.pair-2.ensures, c.pair.ensures)

@@ -1,0 +1,15 @@
+pub mod Rows
+pub mod Coding
+pub mod Rule
+pub mod Reading
+pub mod Writing
+pub mod Answers
+pub mod RoundTrip
+pub mod Literals
+pub mod WordsAsPrinted
+pub mod RowsAsPrinted
+pub mod NamesAsPrinted
+pub mod TimAsPrinted
+pub mod DifAsPrinted
+pub mod PosAsPrinted
+pub mod AsPrinted
