@@ -1,6 +1,7 @@
 -- `remote::coding::difference_in` meets its contract.
 use mathlib.Core.Path.{ap, ◌∙◌}
 use Prim.Native.Nat.{◌+◌, ◌*◌}
+use mir.Syntax.{w16}
 use mir.Facts.{to_z-of_z}
 use borrow.Author.Rules.{rules, sfits_of}
 use Rattle.minutes.specs.Minutes.{signed}
