@@ -1,7 +1,6 @@
 -- `message::read::is_command` meets its contract.
 use native.Mathlib.Omega.{arith}
 use lib.ListN.{get_or-eq_default}
-use borrow.Author.Rules.{rules}
 use Rattle.message.proofs.read.is_command.Goals as goal
 
 pub returns-then-bytes-lt5 : goal.returns-then-bytes-lt5

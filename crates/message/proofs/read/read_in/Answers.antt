@@ -3,7 +3,6 @@ use mathlib.Core.Path.{sym, ap, ◌∙◌}
 use Rattle.record_rules.specs.Answers.{record_answer}
 use Rattle.remote_rules.specs.Answers.{command_answer}
 use Rattle.message_rules.proofs.MessageLaws.{as_command, as_stamp}
-use borrow.Author.Rules.{rules}
 use Rattle.message.proofs.read.read_in.Goals as goal
 
 pub returns-in-Good : goal.returns-in-Good

@@ -1,7 +1,7 @@
 -- `remote::coding::command_in` meets its contract.
 use mathlib.Core.Path.{sym, ap}
 use mir.Facts.{to_z-of_z}
-use borrow.Author.Rules.{rules, sfits_of}
+use borrow.Author.Rules.{sfits_of}
 use Rattle.remote_rules.specs.Coding.{command_in}
 use Rattle.remote.proofs.coding.command_in.Goals as goal
 

@@ -4,7 +4,6 @@ use native.Mathlib.Omega.{arith}
 use mir.Syntax.{w16}
 use mir.Facts.{to_z-of_z, Fits-nat_abs}
 use Rattle.minutes.specs.Minutes.{hours_of, minutes_of}
-use borrow.Author.Rules.{rules}
 use Rattle.remote.proofs.coding.difference_digits.Goals as goal
 
 pub overflow_cast-result : goal.overflow_cast-result

@@ -1,5 +1,4 @@
 -- `remote::coding::latitude_in` meets its contract.
-use borrow.Author.Rules.{rules}
 use Rattle.remote.proofs.coding.latitude_in.Goals as goal
 
 pub returns : goal.returns

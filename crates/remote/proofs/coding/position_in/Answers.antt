@@ -1,5 +1,4 @@
 -- `remote::coding::position_in` meets its contract.
-use borrow.Author.Rules.{rules}
 use Rattle.remote.proofs.coding.position_in.Goals as goal
 
 pub returns : goal.returns

@@ -1,9 +1,7 @@
 -- `remote::read::read` meets its contract.
 use mathlib.Core.Path.{sym, ap, ◌∙◌}
-use borrow.Author.Tests.{not-true, not-false}
 use Rattle.remote_rules.specs.Answers.{form_answer}
 use Rattle.remote_rules.proofs.ReadLaws.{no_form, not_framed, by_form}
-use borrow.Author.Rules.{rules}
 use Rattle.remote.proofs.read.read.Goals as goal
 
 pub returns-then-not-is_framed : goal.returns-then-not-is_framed

@@ -1,10 +1,8 @@
 -- `remote::read::read_as` meets its contract: each way it ends is a law of the definition.
 use mathlib.Core.Path.{sym, ◌∙◌}
 use native.Mathlib.Omega.{arith}
-use borrow.Author.Tests.{not-true, not-false}
 use Rattle.remote_rules.proofs.SpanLaws.{span_ends, span_within}
 use Rattle.remote_rules.proofs.ReadLaws.{seen, ends_in_row, ends_misspelled, ends_refused, ends_good}
-use borrow.Author.Rules.{rules}
 use Rattle.remote.proofs.read.read_as.Goals as goal
 
 pub slice_bounds-scan-count : goal.slice_bounds-scan-count

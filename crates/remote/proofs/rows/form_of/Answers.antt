@@ -4,7 +4,6 @@ use mathlib.Core.Bool.{true, false}
 use lib.ListN.{length}
 use Rattle.remote_rules.specs.declared.rows.Form.TheVariants.{DifAsked, PosAsked}
 use Rattle.remote_rules.specs.Rows.{is_named, by_length, by_sign, by_hemispheres, east_west_of, north_south_of, form_of}
-use borrow.Author.Rules.{rules}
 use Rattle.remote.proofs.rows.form_of.Goals as goal
 
 pub returns-then-is_named : goal.returns-then-is_named

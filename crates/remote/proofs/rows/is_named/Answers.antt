@@ -4,7 +4,6 @@ use native.Mathlib.Omega.{arith}
 use lib.ListN.{get_or-eq_default}
 use borrow.Author.Tests.{eq-eqb, ne_eqb}
 use Rattle.remote_rules.specs.Rows.{is_named}
-use borrow.Author.Rules.{rules}
 use Rattle.remote.proofs.rows.is_named.Goals as goal
 
 pub returns-then-bytes-lt5 : goal.returns-then-bytes-lt5

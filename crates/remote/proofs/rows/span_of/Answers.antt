@@ -1,7 +1,6 @@
 -- `remote::rows::span_of` meets its contract.
 use mathlib.Core.Path.{sym, ap}
 use Rattle.remote_rules.specs.Rows.{inner_row, row_of, span_of}
-use borrow.Author.Rules.{rules}
 use Rattle.remote.proofs.rows.span_of.Goals as goal
 
 pub returns-in-Tim : goal.returns-in-Tim

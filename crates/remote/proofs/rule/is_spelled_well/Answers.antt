@@ -6,7 +6,6 @@ use borrow.Author.Tests.{lt-ltb, le-leb, lt-leb}
 use Rattle.layouts_rules.specs.Coding.{number}
 use Rattle.remote_rules.specs.Coding.{minutes_in}
 use Rattle.remote_rules.specs.Rule.{spelled_well}
-use borrow.Author.Rules.{rules}
 use Rattle.remote.proofs.rule.is_spelled_well.Goals as goal
 
 pub returns-then-minutes-gt59 : goal.returns-then-minutes-gt59

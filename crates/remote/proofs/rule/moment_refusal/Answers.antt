@@ -2,7 +2,6 @@
 use mathlib.Core.Path.{ap, ◌∙◌}
 use Rattle.refusals.specs.Refusals.{lower}
 use Rattle.remote_rules.proofs.MomentLaws.{to_59, above_59}
-use borrow.Author.Rules.{rules}
 use Rattle.remote.proofs.rule.moment_refusal.Goals as goal
 
 pub returns-then-time-gt59 : goal.returns-then-time-gt59

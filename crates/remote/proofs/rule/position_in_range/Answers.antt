@@ -1,8 +1,6 @@
 -- `remote::rule::position_in_range` meets its contract.
 use mathlib.Core.Path.{sym, ◌∙◌}
-use borrow.Author.Tests.{not-true, not-false}
 use Rattle.remote_rules.specs.Rule.{position_in_range}
-use borrow.Author.Rules.{rules}
 use Rattle.remote.proofs.rule.position_in_range.Goals as goal
 
 pub returns-then-not-angle_in_range : goal.returns-then-not-angle_in_range

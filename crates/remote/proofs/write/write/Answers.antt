@@ -4,7 +4,6 @@ use native.Mathlib.Omega.{arith}
 use Rattle.remote_rules.specs.Rows.{span_of}
 use Rattle.remote_rules.proofs.SpanLaws.{span_ends, span_within}
 use Rattle.remote_rules.proofs.WriteLaws.{ends_refused, ends_short, ends_written}
-use borrow.Author.Rules.{rules}
 use Rattle.remote.proofs.write.write.Goals as goal
 
 pub returns-then-refused-ne-NONE : goal.returns-then-refused-ne-NONE
