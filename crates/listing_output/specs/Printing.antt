@@ -1,5 +1,5 @@
 -- What a printer is after a piece and after the end of the line. What goes out is what `listing` and `pages` lay; whether it went out
--- is the operating system's answer, and no definition can give it.
+-- is the writer's answer, and no definition can give it.
 use Rattle.std.specs.Prelude.{cond, List, ℕ}
 use Rattle.line.specs.declared.Reader.{Reader}
 use Rattle.line.specs.Readers.{reader_of, line_of, well_formed}
@@ -21,21 +21,21 @@ after_piece reader piece = reader_of (line_after (line_of reader) piece)
 -- what a call leaves, by what the output then is: where everything went out, the next reader; else the reader as it was
 abbrev pub handed : Reader → Reader → Output → Printer
 handed reader next output.Whole = record { reader = next; output = output.Whole }
-handed reader next output.Failed = record { reader = reader; output = output.Failed }
+handed reader next (output.Failed why) = record { reader = reader; output = output.Failed why }
 handed reader next (output.Refused number) = record { reader = reader; output = output.Refused number }
 
 -- once something did not go out, or was refused, a printer stays as it is; a state that is not well formed is refused with 15 and
 -- comes back unchanged
 abbrev pub printed : Output → Reader → Reader → Output → Printer
 printed output.Whole reader next told = cond (well_formed reader) (handed reader next told) (record { reader = reader; output = output.Refused 15 })
-printed output.Failed reader next told = record { reader = reader; output = output.Failed }
+printed (output.Failed why) reader next told = record { reader = reader; output = output.Failed why }
 printed (output.Refused number) reader next told = record { reader = reader; output = output.Refused number }
 
--- a row that was laid goes out or does not; one that was refused is told with its number
+-- a row that was laid goes out or does not, and is not refused; one that was refused is told with its number
 abbrev pub sent_out : Output → Output
 sent_out output.Whole = output.Whole
-sent_out output.Failed = output.Failed
-sent_out (output.Refused number) = output.Failed
+sent_out (output.Failed why) = output.Failed why
+sent_out (output.Refused number) = output.Whole
 
 abbrev pub printed_row : RowAnswer → Output → Output
 printed_row (row.Written size) told = sent_out told
