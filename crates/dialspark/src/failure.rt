@@ -42,8 +42,8 @@ impl fmt::Display for Reason {
         let mut room = [0u8; REASON_ROOM];
         let mut rest: &mut [u8] = &mut room;
         let _ = write!(rest, "{}", self.0);
-        let left = rest.len();
-        let text = std::str::from_utf8(&room[..REASON_ROOM - left]).unwrap_or("");
+        let count = REASON_ROOM.saturating_sub(rest.len());
+        let text = str::from_utf8(&room[..count]).unwrap_or("");
         match text.split_once(" (os error ") {
             Some((words, _)) => f.write_str(words),
             None => f.write_str(text),
