@@ -1,11 +1,13 @@
 // The listing, handed to a writer: each row goes out when its event has come.
 #![tactic(auto)]
 
-ghost use Rattle.std.specs.Prelude.{◌≡◌, min};
+ghost use Rattle.std.specs.Prelude.{◌≡◌, ◌++◌, min, take, OnOk};
+ghost use Rattle.std.specs.Io.KnownBytes.{Appends};
 ghost use Rattle.line.specs.Readers.{fresh_in, fresh_reader, end_reader};
-ghost use Rattle.listing_of_lines.specs.Pages.{page_of};
+ghost use Rattle.listing_rules.specs.Listing.{header_row, stray_row};
+ghost use Rattle.listing_of_lines.specs.Pages.{page_of, row_for};
 ghost use Rattle.listing_output.specs.declared.Output.TheVariants.{Whole};
-ghost use Rattle.listing_output.specs.Printing.{page_room, after_piece, printed, printed_row};
+ghost use Rattle.listing_output.specs.Printing.{page_room, after_piece, printed, printed_row, bytes_of, piece_rows, end_rows, IsSent, IsRowSent, IsSilentUnlessWhole};
 
 use line::{Heard, Reader};
 use listing::{LONGEST_ROW, RowAnswer};
@@ -52,14 +54,17 @@ fn smaller(a: usize, b: usize) -> usize
 }
 
 // Writes the first bytes of a buffer.
-fn print<W: Write>(to: &mut W, out: &[u8], count: usize) -> io::Result<()> {
+fn print<W: Write>(to: &mut W, out: &[u8], count: usize) -> io::Result<()>
+    ensures { OnOk result (Appends (W.contents to.old) (W.contents to.new) (take count out.now)) }
+{
     let end = smaller(count, out.len());
     to.write_all(&out[0..end])
 }
 
 // Writes a row that was made at the front of a buffer.
 pub fn print_row<W: Write>(to: &mut W, made: RowAnswer, out: &[u8]) -> Output
-    ensures { result ≡ printed_row made result }
+    ensures told { result ≡ printed_row made result }
+    ensures sent { IsRowSent made result (W.contents to.old) (W.contents to.new) out.now }
 {
     match made {
         RowAnswer::Written(count) => match print(to, out, count) {
@@ -70,20 +75,26 @@ pub fn print_row<W: Write>(to: &mut W, made: RowAnswer, out: &[u8]) -> Output
     }
 }
 
-fn print_header<W: Write>(to: &mut W) -> Output {
+fn print_header<W: Write>(to: &mut W) -> Output
+    ensures { IsSent result (W.contents to.old) (W.contents to.new) header_row }
+{
     let mut out = [0u8; LONGEST_ROW];
     let made = listing::rows::header(&mut out);
     print_row(to, made, &out)
 }
 
-fn print_stray<W: Write>(to: &mut W, stray: u32) -> Output {
+fn print_stray<W: Write>(to: &mut W, stray: u32) -> Output
+    ensures { IsSent result (W.contents to.old) (W.contents to.new) (stray_row stray) }
+{
     let mut out = [0u8; LONGEST_ROW];
     let made = listing::rows::stray_line(stray, &mut out);
     print_row(to, made, &out)
 }
 
 // The last event's row, if there is one, and the line with the count of stray bytes.
-fn print_last<W: Write>(to: &mut W, heard: Heard, stray: u32) -> Output {
+fn print_last<W: Write>(to: &mut W, heard: Heard, stray: u32) -> Output
+    ensures { IsSent result (W.contents to.old) (W.contents to.new) (bytes_of (row_for heard) ++ stray_row stray) }
+{
     let mut out = [0u8; LONGEST_ROW];
     let made = listing_of_lines::row_for(heard, &mut out);
     match print_row(to, made, &out) {
@@ -95,7 +106,9 @@ fn print_last<W: Write>(to: &mut W, heard: Heard, stray: u32) -> Output {
 
 // The rows of as much of a piece as one buffer takes.
 fn print_page<W: Write>(to: &mut W, reader: Reader, piece: &[u8]) -> Sheet
-    ensures { (result.reader ≡ (page_of page_room reader piece.now).reader) × (result.taken ≡ (page_of page_room reader piece.now).taken) }
+    ensures reader { result.reader ≡ (page_of page_room reader piece.now).reader }
+    ensures taken { result.taken ≡ (page_of page_room reader piece.now).taken }
+    ensures sent { OnOk result.written (Appends (W.contents to.old) (W.contents to.new) (page_of page_room reader piece.now).bytes) }
 {
     let mut out = [0u8; PAGE];
     let listed = listing_of_lines::list(reader, piece, &mut out);
@@ -108,7 +121,8 @@ fn print_page<W: Write>(to: &mut W, reader: Reader, piece: &[u8]) -> Sheet
 
 // Uses a piece up, page by page. Where a write fails the reader comes back as it was.
 fn print_piece<W: Write>(to: &mut W, reader: Reader, piece: &[u8]) -> Printer
-    ensures { result ≡ printed Whole reader (after_piece reader piece.now) result.output }
+    ensures left { result ≡ printed Whole reader (after_piece reader piece.now) result.output }
+    ensures sent { IsSent result.output (W.contents to.old) (W.contents to.new) (piece_rows reader piece.now) }
 {
     if !reader.is_well_formed() {
         return Printer {
@@ -137,7 +151,8 @@ fn print_piece<W: Write>(to: &mut W, reader: Reader, piece: &[u8]) -> Printer
 }
 
 fn print_end<W: Write>(to: &mut W, reader: Reader) -> Printer
-    ensures { result ≡ printed Whole reader (end_reader reader).reader result.output }
+    ensures left { result ≡ printed Whole reader (end_reader reader).reader result.output }
+    ensures sent { IsSent result.output (W.contents to.old) (W.contents to.new) (end_rows reader) }
 {
     if !reader.is_well_formed() {
         return Printer {
@@ -165,14 +180,16 @@ fn print_end<W: Write>(to: &mut W, reader: Reader) -> Printer
 impl Printer {
     // A fresh reader, as printed; the header is written.
     pub fn start<W: Write>(to: &mut W) -> Printer
-        ensures { result.reader ≡ fresh_reader }
+        ensures reader { result.reader ≡ fresh_reader }
+        ensures sent { IsSent result.output (W.contents to.old) (W.contents to.new) header_row }
     {
         Printer::start_in(to, Order::AsPrinted)
     }
 
     // The same for a line in a named order.
     pub fn start_in<W: Write>(to: &mut W, order: Order) -> Printer
-        ensures { result.reader ≡ fresh_in order }
+        ensures reader { result.reader ≡ fresh_in order }
+        ensures sent { IsSent result.output (W.contents to.old) (W.contents to.new) header_row }
     {
         Printer {
             reader: Reader::fresh_in(order),
@@ -182,7 +199,9 @@ impl Printer {
 
     // Uses a piece up, and writes the rows of its events.
     pub fn piece<W: Write>(self, to: &mut W, piece: &[u8]) -> Printer
-        ensures { result ≡ printed self.output self.reader (after_piece self.reader piece.now) result.output }
+        ensures left { result ≡ printed self.output self.reader (after_piece self.reader piece.now) result.output }
+        ensures sent { IsSent result.output (W.contents to.old) (W.contents to.new) (piece_rows self.reader piece.now) }
+        ensures silent { IsSilentUnlessWhole self.output (W.contents to.old) (W.contents to.new) }
     {
         match self.output {
             Output::Whole => print_piece(to, self.reader, piece),
@@ -193,7 +212,9 @@ impl Printer {
 
     // Ends the line: the last event's row, if there is one, and the count of stray bytes are written.
     pub fn end<W: Write>(self, to: &mut W) -> Printer
-        ensures { result ≡ printed self.output self.reader (end_reader self.reader).reader result.output }
+        ensures left { result ≡ printed self.output self.reader (end_reader self.reader).reader result.output }
+        ensures sent { IsSent result.output (W.contents to.old) (W.contents to.new) (end_rows self.reader) }
+        ensures silent { IsSilentUnlessWhole self.output (W.contents to.old) (W.contents to.new) }
     {
         match self.output {
             Output::Whole => print_end(to, self.reader),
