@@ -1,5 +1,5 @@
 // One read, whose failure is never taken for the end.
-ghost use Rattle.std.specs.Prelude.{length};
+ghost use Rattle.std.specs.Prelude.{◌≤◌, length, IfOk};
 ghost use Rattle.dialspark.specs.Reads.{Within};
 
 use std::io;
