@@ -72,21 +72,18 @@ fn writes(rec: Record, out: &mut [u8]) -> bool {
     }
 }
 
-// Writes the records one behind another; answers how many bytes they take. Nothing is written where they might not all have room.
-fn write_each(data: &[u8], out: &mut [u8]) -> usize {
-    let length = data.len();
-    if out.len() < length {
-        return 0;
-    }
-    let mut used: usize = 0;
-    let mut at: usize = 0;
-    while at < length && TELEGRAM <= length - at {
-        let end = at + TELEGRAM;
-        let room = used + TELEGRAM;
-        if writes(made(&data[at..end]), &mut out[used..room]) {
-            used = room;
+// Writes the records one behind another, where they have room; answers how many bytes they take.
+fn write_each(data: &[u8], out: &mut [u8]) -> usize
+    ensures { result ≤ length out.new }
+{
+    let mut used = 0;
+    for telegram in data.chunks_exact(TELEGRAM) {
+        let end = used + TELEGRAM;
+        if let Some(room) = out.get_mut(used..end)
+            && writes(made(telegram), room)
+        {
+            used = end;
         }
-        at = end;
     }
     used
 }
@@ -141,14 +138,12 @@ fn adds(region: &mut [u8]) -> bool {
 // No region has more free slots than bytes.
 fn added(region: &mut [u8]) -> u64 {
     let length = region.len();
-    let mut count: usize = 0;
-    while count < length {
+    for count in 0..length {
         if !adds(region) {
             return count as u64;
         }
-        count += 1;
     }
-    count as u64
+    length as u64
 }
 
 fn work(mode: u8, data: &mut [u8]) -> u64 {
