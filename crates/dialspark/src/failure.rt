@@ -1,4 +1,6 @@
 // What ends a run before its end, and how it is told.
+ghost use Rattle.std.specs.Prelude.{◌≡◌, OnOk};
+
 use super::{help, words};
 use command_line::Fault;
 use listing_output::Output;
@@ -21,7 +23,9 @@ pub(crate) enum Failure {
 }
 
 // Nothing, where all of a listing so far went out.
-pub(crate) fn went_out(output: Output) -> Result<(), Failure> {
+pub(crate) fn went_out(output: Output) -> Result<(), Failure>
+    ensures { OnOk result (output ≡ Output.Whole) }
+{
     match output {
         Output::Whole => Ok(()),
         Output::Failed(why) => Err(Failure::ListingUnwritten(why)),

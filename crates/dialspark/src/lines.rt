@@ -1,8 +1,14 @@
 // A captured line, listed to its end.
+ghost use Rattle.std.specs.Prelude.{◌≡◌, IfOk, IfSome, OnOk};
+ghost use Rattle.std.specs.Io.KnownBytes.{Appends};
+ghost use Rattle.listing_of_lines.specs.Whole.{listing_in};
+ghost use Rattle.listing_output.specs.declared.Output.TheVariants.{Whole};
+
 use super::failure::{Failure, went_out};
 use super::reads;
 use super::reads::Got;
 use listing_output::Printer;
+use std::io;
 use std::io::{Read, Write};
 use trailer::Order;
 
@@ -10,7 +16,9 @@ use trailer::Order;
 const ROOM: usize = 65536;
 
 // The printer as it is, where all that it printed went out.
-fn whole(printer: Printer) -> Result<Printer, Failure> {
+fn whole(printer: Printer) -> Result<Printer, Failure>
+    ensures { IfOk result (λ same. (same ≡ printer) × (printer.output ≡ Whole)) }
+{
     went_out(printer.output)?;
     Ok(printer)
 }
@@ -22,7 +30,9 @@ pub(crate) fn list<S: Read, W: Write>(
     order: Order,
     capture: &mut S,
     to: &mut W,
-) -> Result<(), Failure> {
+) -> Result<(), Failure>
+    ensures { OnOk result (IfSome (S.remaining capture.old) (λ bytes. Appends (W.contents to.old) (W.contents to.new) (listing_in order bytes))) }
+{
     let mut buffer = [0u8; ROOM];
     let mut printer = whole(Printer::start_in(to, order))?;
     for _ in 0..u64::MAX {
@@ -32,5 +42,5 @@ pub(crate) fn list<S: Read, W: Write>(
             Got::Failed(why) => return Err(Failure::CaptureUnread(why)),
         }
     }
-    Ok(())
+    Err(Failure::CaptureUnread(io::Error::other("too many reads")))
 }

@@ -1,6 +1,7 @@
 // One read, whose failure is never taken for the end.
 ghost use Rattle.std.specs.Prelude.{◌≤◌, length, IfOk};
-ghost use Rattle.dialspark.specs.Reads.{Within};
+ghost use Rattle.std.specs.Io.KnownBytes.{ReadConsumes};
+ghost use Rattle.dialspark.specs.Reads.{Within, Takes};
 
 use std::io;
 use std::io::{ErrorKind, Read};
@@ -15,7 +16,8 @@ pub enum Got {
 
 // A read that a signal broke off is made again. The turns are counted up to a number that no run comes to.
 fn read<S: Read>(source: &mut S, buffer: &mut [u8]) -> io::Result<usize>
-    ensures { IfOk result (λ count. count ≤ length buffer.new) }
+    ensures within { IfOk result (λ count. count ≤ length buffer.new) }
+    ensures taken { ReadConsumes (S.remaining source.old) (S.remaining source.new) result buffer.new }
 {
     for _ in 0..u64::MAX {
         match source.read(buffer) {
@@ -28,7 +30,8 @@ fn read<S: Read>(source: &mut S, buffer: &mut [u8]) -> io::Result<usize>
 
 // As many bytes as are there and have room.
 pub(crate) fn next<S: Read>(source: &mut S, buffer: &mut [u8]) -> Got
-    ensures { Within result (length buffer.new) }
+    ensures within { Within result (length buffer.new) }
+    ensures taken { Takes result (S.remaining source.old) (S.remaining source.new) buffer.new }
 {
     match read(source, buffer) {
         Ok(0) => Got::End,
