@@ -57,8 +57,7 @@ class Names:
         for module, source in crate.modules.items():
             self.there.add(module)
             text = tree.without_comments(tree.text_of(source))
-            handed_on = [path.split("::")[-1] for path in tree.PASSED_ON.findall(text)]
-            self.there |= {f"{module}::{declared}" for declared in DECLARED.findall(text) + handed_on}
+            self.there |= {f"{module}::{declared}" for declared in DECLARED.findall(text) + tree.passed_on(text)}
 
     def has(self, name):
         if name in self.there:

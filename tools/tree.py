@@ -11,7 +11,7 @@ FUNCTION = re.compile(r"^[ \t]*(pub(?:\([\w:]+\))? )?(?:const )?(?:unsafe )?(?:e
 IMPL = re.compile(r"^impl\b", re.M)
 TYPE = re.compile(r"^(pub(?:\([\w:]+\))? )?(?:struct|enum) (\w+)", re.M)
 MODULE = re.compile(r"^(pub(?:\([\w:]+\))? )?mod (\w+);", re.M)
-PASSED_ON = re.compile(r"^pub use ([\w:]+);", re.M)
+PASSED_ON = re.compile(r"^pub use ([\w:]+(?:::\{[^{};]*\})?(?: as \w+)?);", re.M)
 ITEM = re.compile(r"^(?:(?:abbrev|unfoldable|opaque|private) )*(pub )?(?:(?:abbrev|unfoldable|opaque) )*(record |data )?([^\s:(){}]+)")
 OF_A_FUNCTION = {"Answers.antt", "Invariants.antt", "Proof.antt"}
 NO_ITEM = {"use", "mod", "module", "open", "infix", "infixl", "infixr", "syntax", "package"}
@@ -29,8 +29,14 @@ def crates(root=ROOT):
     return [line.split(":")[0].split()[0] for line in text_of(root / "crates.txt").split("\n") if ":" in line and not line.startswith("#")]
 
 
-def rules_of(crate):
-    """The name of the crate that says what is right of what a crate does."""
+def rules_of(crate, root=ROOT):
+    """The name of the crate that says what is right of what a crate does: NAME_rules of NAME, or of a crate that stands on it and
+    has a word more in front, as a library may not be named like one of the toolchain's."""
+    for line in text_of(root / "crates.txt").split("\n"):
+        name, _, below = line.partition(":")
+        for rules in below.split() if name.split()[:1] == [crate] else []:
+            if rules.endswith("_rules") and f"_{crate}".endswith("_" + rules.removesuffix("_rules")):
+                return rules
     return f"{crate}_rules"
 
 
@@ -46,6 +52,12 @@ def without_comments(text):
 def without_literals(text):
     """The same with its texts and characters blanked too, so that a bracket in one closes nothing."""
     return APART.sub(blank, text)
+
+
+def passed_on(text):
+    """The names that a source hands on by `pub use`, one or several to a line."""
+    return [part.split(" as ")[-1].split("::")[-1].strip()
+            for path in PASSED_ON.findall(text) for part in re.sub(r".*\{|\}", "", path, flags=re.S).split(",") if part.strip()]
 
 
 def closing(text, at):
@@ -167,7 +179,7 @@ class Crate:
         self.modules[module] = source
         if is_open:
             self.open.add(module)
-            self.passed_on |= {path.replace("crate::", "").split("::")[-1] for path in PASSED_ON.findall(text)}
+            self.passed_on |= set(passed_on(text))
         self.types |= {f"{module}::{name}" for visible, name in TYPE.findall(text) if visible == "pub "}
         for visible, name in MODULE.findall(text):
             inner = below / f"{name}.rt"
