@@ -14,7 +14,7 @@ of each row names one thing or more, in backticks, and each must be there:
 In docs/DOCUMENT-02.md a row may be `not yet` in its place.
 
 Of the pages in PROSE each path in backticks that begins with a folder of the tree or with a crate, each path of a function and each
-theorem as `File.name` must be there.
+theorem as `File.name` must be there; of a built program, crates/NAME/out/NAME, the crate that it is built of.
 
 On any page a block of lines that names a file behind its language, as ```rust crates/measured/src/main.rt, is a quotation: its
 lines stand in that file, one behind another, whatever their indentation. A line `..` in it stands for lines that are left out.
@@ -29,6 +29,7 @@ PROSE = ["README.md", "docs/USE.md", "docs/HOW-TO-CHANGE.md", "docs/PROMISES.md"
 NOT_YET = "not yet"
 NAME = re.compile(r"`([^`]+)`")
 DECLARED = re.compile(r"^(?:pub(?:\([\w:]+\))? )?(?:struct|enum|const|static|type) (\w+)", re.M)
+BUILT = re.compile(r"crates/(\w+)/out/\1(?: .*)?")   # as one is named, or called with words
 QUOTED = re.compile(r"^```\w+ (\S+)\n(.*?)^```$", re.M | re.S)
 
 
@@ -100,7 +101,9 @@ def prose_faults(page, names):
     for number, line in enumerate(without_blocks(tree.text_of(tree.ROOT / page)).split("\n"), 1):
         for name in NAME.findall(line):
             gone = False
-            if re.fullmatch(r"[\w./-]+", name) and "/" in name and name.split("/")[0] in folders:
+            if built := BUILT.fullmatch(name):
+                gone = not (tree.ROOT / "crates" / built.group(1) / "src" / "main.rt").is_file()
+            elif re.fullmatch(r"[\w./-]+", name) and "/" in name and name.split("/")[0] in folders:
                 gone = not (tree.ROOT / name).exists() and not names.has(name)
             elif re.fullmatch(r"[\w./-]+", name) and "/" in name and name.split("/")[0] in crates:
                 is_edit = names.has(name.replace("/", "/must-fail/", 1))
