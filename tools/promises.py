@@ -36,9 +36,9 @@ CELL = re.compile(r"(?<!\\)\|")
 
 
 def without_brackets(text):
-    """A term without the brackets that hold all of it."""
+    """A term without the brackets that hold all of it, and without those that make a fact a part of a starred clause."""
     text = text.strip()
-    while text.startswith("(") and tree.closing(text, 0) == len(text):
+    while text.startswith("(") and tree.closing(text, 0) == len(text) or text.startswith("⌜") and text.find("⌝") == len(text) - 1:
         text = text[1:-1].strip()
     return text
 
