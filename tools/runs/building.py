@@ -5,7 +5,6 @@ It is run in a folder of its own, with an `rt` before the kit's on the path that
 import os
 import pathlib
 import shutil
-import signal
 import subprocess
 
 from runs import program
@@ -16,10 +15,10 @@ GOOD, DAMAGED, TOLD, NOT_BUILT = 0, 1, 2, 3
 BUILDING = b"tools/list: proves and builds dialspark first, which takes a few minutes\n"
 
 RT = """#!/bin/sh
-[ "$1" = check ] || exec {rt} "$@"
+[ "$1" = run ] || exec {rt} "$@"
 {check}
 """
-BUILT = "mkdir -p target/bin && cp {program} target/bin/dialspark"
+BUILT = "mkdir -p out && cp {program} out/dialspark"
 REFUSED = "echo refused; exit 1"
 
 
@@ -29,6 +28,7 @@ class Lister:
     def __init__(self, folder, check):
         self.root = pathlib.Path(folder)
         (self.root / "tools").mkdir(parents=True)
+        (self.root / "crates" / program.NAME).mkdir(parents=True)
         shutil.copy(program.ROOT / "tools" / "list", self.root / "tools" / "list")
         tool = self.root / "bin" / "rt"
         tool.parent.mkdir()
@@ -74,7 +74,7 @@ def check_logs(lister, folder):
 
 
 def check_failures(lister):
-    """A write that fails, and a signal."""
+    """Writes that fail: to a full output, and to a pipe whose reader has gone."""
     sample, log = program.captures()[0][0], program.ROOT / "samples" / "month.log"
     for words in [str(sample)], ["--verify", str(log)]:
         with open("/dev/full", "wb") as full:
@@ -83,10 +83,10 @@ def check_failures(lister):
             program.fail(f"tools/list {words} with a full output: status {status}, {err!r}")
     reader, writer = os.pipe()
     os.close(reader)
-    _, _, status = lister.run([str(sample)], stdout=writer)
+    _, err, status = lister.run([str(sample)], stdout=writer)
     os.close(writer)
-    if status != 128 + signal.SIGPIPE:
-        program.fail(f"tools/list with a broken pipe: status {status}, which is not the signal's")
+    if status != TOLD or not err:
+        program.fail(f"tools/list with a broken pipe: status {status}, {err!r}")
 
 
 def check(folder):

@@ -33,8 +33,8 @@ def fail(what):
 
 
 def binary():
-    """The program that is run: the one that is named, or the one that `rt check` and `rt ci` leave."""
-    return pathlib.Path(sys.argv[1]).resolve() if len(sys.argv) > 1 else ROOT / "target" / "bin" / NAME
+    """The program that is run: the one that is named, or the one that `rt run` leaves in its crate's folder."""
+    return pathlib.Path(sys.argv[1]).resolve() if len(sys.argv) > 1 else ROOT / "crates" / NAME / "out" / NAME
 
 
 def emulated():
@@ -49,7 +49,7 @@ def emulated():
 def command():
     """How the program is called."""
     if not binary().exists():
-        fail(f"{binary()} is not built")
+        fail(f"{binary()} is not built: rt run in {ROOT / 'crates' / NAME} builds it")
     return [*emulated(), str(binary())]
 
 

@@ -7,4 +7,4 @@ use Rattle.dialspark.specs.declared.reads.Got.TheVariants.{Bytes, End, Failed}
 abbrev pub Within : Got → ℕ → Type 0
 Within (Bytes count) room = (1 ≤ count) × (count ≤ room)
 Within End room = Unit {0}
-Within Failed room = Unit {0}
+Within (Failed why) room = Unit {0}

@@ -1,208 +1,128 @@
 // A log's file, block by block: its telegrams listed, or its blocks verified.
+use super::failure::{Failure, went_out};
+use super::reads;
 use super::reads::Got;
-use super::{is_whole, reads, tell};
+use delivery_log::BLOCK_SIZE;
 use listing::{LONGEST_LOG_ROW, RowAnswer, log_rows};
 use listing_of_logs::PAGE;
-use listing_output::{Output, print_row};
-use delivery_log::BLOCK_SIZE;
+use listing_output::print_row;
 use refusals::NOT_WHOLE_BLOCKS;
+use std::io;
+use std::io::{Read, Write};
 
 // What is listed: a row for each telegram of the good blocks, or a row for each block.
-#[derive(Drop)]
-pub enum Rows {
+#[derive(Clone, Copy)]
+pub(crate) enum Rows {
     Telegrams,
     Blocks,
 }
 
-// The next block of the file: all its bytes, or so many before the file ended, or none as a read failed.
-#[derive(Drop)]
-enum Filled {
-    Whole,
-    Ended(usize),
-    Failed,
-}
-
-// How many blocks were listed and how many of them are bad, how the output stands, and whether there may be more to read.
-#[derive(Drop)]
-struct Progress {
-    blocks: u64,
-    bad: u64,
-    output: Output,
-    more: bool,
-}
-
-// As many reads as it takes, so that a log may also come through a pipe.
-fn fill(file: i32, block: &mut [u8]) -> Filled {
-    let length = block.len();
-    let mut done: usize = 0;
-    while done < length {
-        match reads::next(
-            file,
-            &mut block[done..],
-            b"dialspark: the log cannot be read",
-        ) {
-            Got::Bytes(count) => {
-                done += count;
-            }
-            Got::End => return Filled::Ended(done),
-            Got::Failed => return Filled::Failed,
+// As many bytes of the next block as there are before the file ends. As many reads as it takes, so that a log may also come through a
+// pipe.
+fn fill<S: Read>(source: &mut S, block: &mut [u8]) -> io::Result<usize> {
+    let mut done = 0;
+    while done < block.len() {
+        match reads::next(source, &mut block[done..]) {
+            Got::Bytes(count) => done += count,
+            Got::End => break,
+            Got::Failed(why) => return Err(why),
         }
     }
-    Filled::Whole
+    Ok(done)
 }
 
-fn lay_header(rows: Rows, out: &mut [u8]) -> RowAnswer {
-    match rows {
-        Rows::Telegrams => log_rows::header(out),
-        Rows::Blocks => log_rows::verify_header(out),
-    }
+fn print<W: Write>(to: &mut W, made: RowAnswer, out: &[u8]) -> Result<(), Failure> {
+    went_out(print_row(to, made, out))
 }
 
-fn print_header(rows: Rows) -> Output {
+fn print_header<W: Write>(rows: Rows, to: &mut W) -> Result<(), Failure> {
     let mut out = [0u8; LONGEST_LOG_ROW];
-    let made = lay_header(rows, &mut out);
-    print_row(made, &out)
+    let made = match rows {
+        Rows::Telegrams => log_rows::header(&mut out),
+        Rows::Blocks => log_rows::verify_header(&mut out),
+    };
+    print(to, made, &out)
 }
 
-// Whether the block that was listed is good, and how the output then stands.
-#[derive(Drop)]
-struct Printed {
-    good: bool,
-    output: Output,
-}
-
-// A bad block has a row of its own there, so that it need not be counted.
-fn print_telegrams(number: u64, block: &[u8]) -> Printed {
+// A bad block has a row of its own.
+fn print_telegrams<W: Write>(number: u64, block: &[u8], to: &mut W) -> Result<(), Failure> {
     let mut out = [0u8; PAGE];
     let made = listing_of_logs::rows_of(number, block, &mut out);
-    Printed {
-        good: true,
-        output: print_row(made, &out),
-    }
+    print(to, made, &out)
 }
 
-fn print_verified(number: u64, block: &[u8]) -> Printed {
+// Answers whether the block is good.
+fn print_verified<W: Write>(number: u64, block: &[u8], to: &mut W) -> Result<bool, Failure> {
     let mut out = [0u8; LONGEST_LOG_ROW];
     let verified = listing_of_logs::verified_row(number, block, &mut out);
-    let made = verified.row;
-    Printed {
-        good: verified.good,
-        output: print_row(made, &out),
-    }
+    print(to, verified.row, &out)?;
+    Ok(verified.good)
 }
 
-fn print_block(rows: Rows, number: u64, block: &[u8]) -> Printed {
+// A block's rows, and how many blocks are then counted as bad. Of the telegrams' listing none is.
+fn print_block<W: Write>(
+    rows: Rows,
+    number: u64,
+    block: &[u8],
+    bad: u64,
+    to: &mut W,
+) -> Result<u64, Failure> {
     match rows {
-        Rows::Telegrams => print_telegrams(number, block),
-        Rows::Blocks => print_verified(number, block),
-    }
-}
-
-fn bad_with(bad: u64, good: bool) -> u64 {
-    if good {
-        return bad;
-    }
-    std::num::wrapping_add_u64(bad, 1)
-}
-
-// One block more.
-fn with_block(so_far: Progress, printed: Printed) -> Progress {
-    let output = printed.output;
-    Progress {
-        blocks: std::num::wrapping_add_u64(so_far.blocks, 1),
-        bad: bad_with(so_far.bad, printed.good),
-        output: output,
-        more: is_whole(output),
+        Rows::Telegrams => {
+            print_telegrams(number, block, to)?;
+            Ok(bad)
+        }
+        Rows::Blocks => {
+            let good = print_verified(number, block, to)?;
+            Ok(if good { bad } else { bad.wrapping_add(1) })
+        }
     }
 }
 
 // Bytes behind the last whole block: 19.
-fn lay_tail(rows: Rows, number: u64, out: &mut [u8]) -> RowAnswer {
-    match rows {
-        Rows::Telegrams => log_rows::block_row(number, NOT_WHOLE_BLOCKS, out),
+fn print_tail<W: Write>(rows: Rows, number: u64, to: &mut W) -> Result<(), Failure> {
+    let mut out = [0u8; LONGEST_LOG_ROW];
+    let made = match rows {
+        Rows::Telegrams => log_rows::block_row(number, NOT_WHOLE_BLOCKS, &mut out),
         Rows::Blocks => {
-            log_rows::tail_row(
-                number,
-                listing_of_logs::offset_of(number),
-                NOT_WHOLE_BLOCKS,
-                out,
-            )
+            let offset = listing_of_logs::offset_of(number);
+            log_rows::tail_row(number, offset, NOT_WHOLE_BLOCKS, &mut out)
         }
-    }
-}
-
-fn print_tail(rows: Rows, number: u64) -> Output {
-    let mut out = [0u8; LONGEST_LOG_ROW];
-    let made = lay_tail(rows, number, &mut out);
-    print_row(made, &out)
-}
-
-fn print_bad(bad: u64) -> Output {
-    let mut out = [0u8; LONGEST_LOG_ROW];
-    let made = log_rows::bad_line(bad, &mut out);
-    print_row(made, &out)
+    };
+    print(to, made, &out)
 }
 
 // The last row of a file's blocks: how many are bad. The telegrams have no such row.
-fn print_end(rows: Rows, so_far: Progress) -> Output {
+fn print_end<W: Write>(rows: Rows, bad: u64, to: &mut W) -> Result<(), Failure> {
     match rows {
-        Rows::Telegrams => Output::Whole,
-        Rows::Blocks => print_bad(so_far.bad),
-    }
-}
-
-// What stands behind the last whole block, and the last row.
-fn print_rest(rows: Rows, so_far: Progress, rest: usize) -> Output {
-    if rest == 0 {
-        return print_end(rows, so_far);
-    }
-    match print_tail(rows, so_far.blocks) {
-        Output::Whole => print_end(rows, so_far),
-        Output::Failed => Output::Failed,
-        Output::Refused(number) => Output::Refused(number),
-    }
-}
-
-// Nothing more is read.
-fn ended(so_far: Progress, output: Output) -> Progress {
-    Progress {
-        blocks: so_far.blocks,
-        bad: so_far.bad,
-        output: output,
-        more: false,
-    }
-}
-
-// The next block, or the end. Where a read failed the listing stops there.
-fn next(rows: Rows, file: i32, so_far: Progress) -> Progress {
-    let mut block = [0u8; BLOCK_SIZE];
-    match fill(file, &mut block) {
-        Filled::Whole => with_block(so_far, print_block(rows, so_far.blocks, &block)),
-        Filled::Ended(rest) => ended(so_far, print_rest(rows, so_far, rest)),
-        Filled::Failed => {
-            let output = so_far.output;
-            ended(so_far, output)
+        Rows::Telegrams => Ok(()),
+        Rows::Blocks => {
+            let mut out = [0u8; LONGEST_LOG_ROW];
+            let made = log_rows::bad_line(bad, &mut out);
+            print(to, made, &out)
         }
     }
 }
 
-fn start(rows: Rows) -> Progress {
-    let output = print_header(rows);
-    Progress {
-        blocks: 0,
-        bad: 0,
-        output: output,
-        more: is_whole(output),
+// Nothing says that the file ends, so the blocks are counted up to a number that no run comes to. Where a read failed the listing stops
+// there.
+pub(crate) fn list<S: Read, W: Write>(
+    rows: Rows,
+    source: &mut S,
+    to: &mut W,
+) -> Result<(), Failure> {
+    let mut block = [0u8; BLOCK_SIZE];
+    let mut bad = 0;
+    print_header(rows, to)?;
+    for number in 0..u64::MAX {
+        let count = fill(source, &mut block).map_err(Failure::LogUnread)?;
+        if count < BLOCK_SIZE {
+            if count > 0 {
+                print_tail(rows, number, to)?;
+            }
+            return print_end(rows, bad, to);
+        }
+        bad = print_block(rows, number, &block, bad, to)?;
     }
-}
-
-pub(crate) fn list(rows: Rows, file: i32) {
-    let mut so_far = start(rows);
-    let mut turns = u64::MAX;
-    while turns > 0 && so_far.more {
-        so_far = next(rows, file, so_far);
-        turns -= 1;
-    }
-    let left = so_far.output;
-    tell(left);
+    Ok(())
 }

@@ -2,125 +2,54 @@
 // standard output; what went wrong is told on standard error.
 #![tactic(auto)]
 
+mod failure;
 mod help;
+mod lines;
 mod logs;
 mod reads;
 mod words;
 
 use command_line::{Asked, Source, Wanted};
-use libc::{STDERR_FILENO, STDIN_FILENO};
-use listing_output::{Output, Printer};
+use failure::Failure;
 use logs::Rows;
-use reads::Got;
+use std::io;
+use std::io::{Read, Write};
+use std::rt::{Env, Files};
 use trailer::Order;
 
-// The printer, and whether there may be more to read.
-#[derive(Drop)]
-struct Turn {
-    printer: Printer,
-    more: bool,
-}
-
-pub(crate) fn is_whole(output: Output) -> bool {
-    match output {
-        Output::Whole => true,
-        Output::Failed => false,
-        Output::Refused(_) => false,
-    }
-}
-
-// Told right after the write that failed, so that errno is that write's.
-pub(crate) fn tell(output: Output) {
-    match output {
-        Output::Whole => {}
-        Output::Failed => os::fail(b"dialspark: the listing cannot be written"),
-        Output::Refused(_) => {
-            io::write_all(STDERR_FILENO, b"dialspark: the listing was refused\n");
-        }
-    }
-}
-
-// Behind a piece there is more to read where its rows went out.
-fn behind(printer: Printer) -> Turn {
-    let output = printer.output;
-    Turn {
-        printer: printer,
-        more: is_whole(output),
-    }
-}
-
-// One read, of as many bytes as are there and have room. Where it fails the listing ends without its count of stray bytes.
-fn next(capture: i32, printer: Printer, buffer: &mut [u8]) -> Turn {
-    match reads::next(capture, buffer, b"dialspark: the capture cannot be read") {
-        Got::Bytes(count) => behind(printer.piece(&buffer[..count])),
-        Got::End => Turn {
-            printer: printer.end(),
-            more: false,
-        },
-        Got::Failed => Turn {
-            printer: printer,
-            more: false,
-        },
-    }
-}
-
-// Nothing says that the input ends, so the turns are counted down from a number that no run uses up. One buffer is lent to all of
-// them: to make it anew for each would take longer than to skip the stray bytes in it.
-fn list(capture: i32, order: Order) {
-    let mut buffer = io::large_buffer();
-    let mut printer = Printer::start_in(order);
-    let output = printer.output;
-    let mut more = is_whole(output);
-    let mut turns = u64::MAX;
-    while turns > 0 && more {
-        let turn = next(capture, printer, &mut buffer);
-        printer = turn.printer;
-        more = turn.more;
-        turns -= 1;
-    }
-    let left = printer.output;
-    tell(left);
-}
-
-fn list_wanted(wanted: Wanted, file: i32) {
+fn list<S: Read, W: Write>(wanted: Wanted, source: &mut S, to: &mut W) -> Result<(), Failure> {
     match wanted {
-        Wanted::Line => list(file, Order::AsPrinted),
-        Wanted::Exchanged => list(file, Order::Exchanged),
-        Wanted::Telegrams => logs::list(Rows::Telegrams, file),
-        Wanted::Blocks => logs::list(Rows::Blocks, file),
+        Wanted::Line => lines::list(Order::AsPrinted, source, to),
+        Wanted::Exchanged => lines::list(Order::Exchanged, source, to),
+        Wanted::Telegrams => logs::list(Rows::Telegrams, source, to),
+        Wanted::Blocks => logs::list(Rows::Blocks, source, to),
     }
 }
 
-fn list_file(wanted: Wanted, name: &[u8]) {
-    let file = os::open_read(name);
-    if file < 0 {
-        io::write_all(STDERR_FILENO, b"dialspark: ");
-        os::fail(name);
-        help::usage();
-        return;
-    }
-    list_wanted(wanted, file);
-    libc::close(file);
-}
-
-fn list_named(wanted: Wanted, place: usize) {
-    let mut name = io::buffer();
-    let length = os::arg(place, &mut name);
-    list_file(wanted, &name[..length]);
-}
-
-fn list_source(wanted: Wanted, source: Source) {
+fn list_source<R: Env + Files + Input + Print>(
+    rt: &R,
+    wanted: Wanted,
+    source: Source,
+) -> Result<(), Failure> {
+    let mut to = io::writer(rt);
     match source {
-        Source::Input => list_wanted(wanted, STDIN_FILENO),
-        Source::File(place) => list_named(wanted, place),
+        Source::Input => list(wanted, &mut rt.reader(), &mut to),
+        Source::File(place) => list(wanted, &mut words::open(rt, place)?, &mut to),
     }
 }
 
-fn main() {
-    match words::read() {
-        Asked::Listing(wanted, source) => list_source(wanted, source),
-        Asked::Help => help::help(),
-        Asked::Version => help::version(),
-        Asked::Refused(fault) => words::refuse(fault),
+fn run<R: Env + Files + Input + Print>(rt: &R) -> Result<(), Failure> {
+    match words::read(rt) {
+        Asked::Listing(wanted, source) => list_source(rt, wanted, source),
+        Asked::Help => help::help(&mut io::writer(rt)),
+        Asked::Version => help::version(&mut io::writer(rt)),
+        Asked::Refused(fault) => Err(Failure::Words(fault)),
+    }
+}
+
+// A failure gives no status of its own. Where standard error takes nothing either, nobody is left to be told.
+fn main(rt: HostRuntime) {
+    if let Err(failure) = run(&rt) {
+        let _ = failure.tell(&rt, &mut rt.stderr());
     }
 }

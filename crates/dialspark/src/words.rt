@@ -1,58 +1,73 @@
 // The words of the command line, as the system hands them out. What they ask for is decided by `command_line`.
-ghost use Rattle.io.specs.Counts.{IsPrefixLen};
+ghost use Rattle.std.specs.Prelude.{◌≤◌, length, IfSome};
 
-use super::help;
-use command_line::{Asked, Fault};
-use libc::STDERR_FILENO;
+use super::failure::Failure;
+use command_line::{Asked, Fault, LONGEST_NAME};
+use std::env::FillError;
+use std::io::Write;
+use std::rt::{Env, Files};
+use std::{fs, io, str};
 
-// The word at a place, as far as the buffer holds it. The whole buffer is more than a name may have.
-fn fetch(place: usize, word: &mut [u8]) -> usize
-    ensures { IsPrefixLen result word.new }
+// More than a name may have.
+const ROOM: usize = LONGEST_NAME + 1;
+
+// The system's number for bytes that are no text: a file's name is UTF-8.
+const NO_TEXT: i32 = 84;
+
+// The word at a place, as far as the buffer holds it; nothing behind the last word.
+fn fetch<E: Env>(env: &E, place: usize, word: &mut [u8]) -> Option<usize>
+    ensures { IfSome result (λ count. count ≤ length word.new) }
 {
-    let length = os::arg(place, word);
-    if os::errno() != 0 {
-        return word.len();
+    match env.arg(place, word) {
+        Ok(count) => Some(count),
+        Err(FillError::TooLong) => Some(word.len()),
+        Err(FillError::NotPresent) => None,
     }
-    length
-}
-
-fn with_place(so_far: Asked, place: usize) -> Asked {
-    let mut word = io::buffer();
-    let length = fetch(place, &mut word);
-    command_line::with_word(so_far, place, &word[..length])
 }
 
 // The first word is the program's own name.
-pub(crate) fn read() -> Asked {
-    let count = os::arg_count();
+pub(crate) fn read<E: Env>(env: &E) -> Asked {
+    let mut word = [0u8; ROOM];
     let mut found = command_line::no_word();
-    let mut place: usize = 1;
-    while place < count {
-        found = with_place(found, place);
-        place += 1;
+    for place in 1..usize::MAX {
+        let Some(count) = fetch(env, place, &mut word) else {
+            break;
+        };
+        found = command_line::with_word(found, place, &word[..count]);
     }
     found
 }
 
-fn no_such_option(place: usize) {
-    let mut word = io::buffer();
-    let length = fetch(place, &mut word);
-    io::write_all(STDERR_FILENO, b"dialspark: no such option: ");
-    io::write_all(STDERR_FILENO, &word[..length]);
-    io::write_all(STDERR_FILENO, b"\n");
-}
-
-fn tell(text: &[u8]) {
-    io::write_all(STDERR_FILENO, text);
-}
-
-// Words that do not fit together are told, with the usage line.
-pub(crate) fn refuse(fault: Fault) {
-    match fault {
-        Fault::NoSuchOption(place) => no_such_option(place),
-        Fault::LongName => tell(b"dialspark: the name of a file has at most 4095 bytes\n"),
-        Fault::SecondListing => tell(b"dialspark: one of --exchanged, --verify and --log, once\n"),
-        Fault::SecondFile => tell(b"dialspark: one file at a time\n"),
+// The file that the word at a place names.
+pub(crate) fn open<R: Env + Files>(rt: &R, place: usize) -> Result<R::File, Failure> {
+    let mut word = [0u8; ROOM];
+    let count = fetch(rt, place, &mut word).unwrap_or(0);
+    match str::from_utf8(&word[..count]) {
+        Ok(name) => fs::open(rt, name).map_err(|why| Failure::Unopened(place, why)),
+        Err(_) => {
+            let why = io::Error::from_raw_os_error(NO_TEXT);
+            Err(Failure::Unopened(place, why))
+        }
     }
-    help::usage();
+}
+
+// Its bytes need not be text.
+pub(crate) fn print<E: Env, W: Write>(env: &E, place: usize, to: &mut W) -> io::Result<()> {
+    let mut word = [0u8; ROOM];
+    let count = fetch(env, place, &mut word).unwrap_or(0);
+    to.write_all(&word[..count])
+}
+
+// What is wrong with the words.
+pub(crate) fn tell<E: Env, W: Write>(env: &E, fault: Fault, to: &mut W) -> io::Result<()> {
+    match fault {
+        Fault::NoSuchOption(place) => {
+            write!(to, "no such option: ")?;
+            print(env, place, to)?;
+            writeln!(to)
+        }
+        Fault::LongName => writeln!(to, "the name of a file has at most {LONGEST_NAME} bytes"),
+        Fault::SecondListing => writeln!(to, "one of --exchanged, --verify and --log, once"),
+        Fault::SecondFile => writeln!(to, "one file at a time"),
+    }
 }

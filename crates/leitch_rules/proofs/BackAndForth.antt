@@ -11,8 +11,8 @@ use Rattle.refusals.specs.Refusals.{◌when◌, done, unless}
 use Rattle.refusals.proofs.Laws.{was_done, does, when_none, else_none}
 use Rattle.places_rules.specs.Places.{fixed_holds, decimal_holds, code_holds, every, gather, row_fault, no_digits}
 use Rattle.places_rules.proofs.Rendering.{length_render}
-use Rattle.places_rules.proofs.Rows.{distinct, slotted}
-use Rattle.places_rules.proofs.RoundTrip.{fixed_rendered, decimals_rendered, codes_rendered, reads_back_law, makes_again, held_gather}
+use Rattle.places_rules.proofs.Rows.{distinct, sound}
+use Rattle.places_rules.proofs.RoundTrip.{fixed_rendered, decimals_rendered, codes_rendered, reads_back_law, makes_again, held_gather, sound_slotted}
 use Rattle.calendar_rules.specs.DayOfYear.{year_day, day_of_year}
 use Rattle.calendar_rules.proofs.Dates as dates
 use Rattle.calendar_rules.proofs.Years.{year_day_bounds}
@@ -31,9 +31,9 @@ row_distinct : distinct reply_row ≡ true
 unfolding reply_row
 row_distinct = refl
 
-row_slotted : slotted reply_row ≡ true
+row_sound : sound reply_row ≡ true
 unfolding reply_row
-row_slotted = refl
+row_sound = refl
 
 pub row_length : length reply_row ≡ 31
 unfolding reply_row
@@ -62,7 +62,7 @@ module _ (reply : Reply) (fields : fields_refusal reply ≡ 0) (day : day_refusa
   reply_carries =
       let g = good reply fields in
       let small = day_small reply fields day in
-      ap reply_in (reads_back_law reply_row (digits_out reply) (digits_held reply g small) row_slotted) ∙ reply_back reply g small
+      ap reply_in (reads_back_law reply_row (digits_out reply) (digits_held reply g small) (sound_slotted reply_row row_sound)) ∙ reply_back reply g small
 
   reply_fits : row_fault reply_row (reply_bytes reply) ≡ 0
   unfolding reply_bytes
@@ -98,8 +98,8 @@ module _ (bytes : List ℕ) (same : length bytes ≡ 31) (fits : row_fault reply
   unfolding carried reply_bytes
   bytes_again =
       let size = same ∙ sym row_length in
-      bytes_back (gather reply_row bytes no_digits) (held_gather reply_row bytes row_distinct row_slotted size tests.1 tests.2)
-      ∙ makes_again reply_row bytes no_digits row_distinct row_slotted size refl tests.0 tests.1 tests.2
+      bytes_back (gather reply_row bytes no_digits) (held_gather reply_row bytes row_distinct (sound_slotted reply_row row_sound) size tests.1 tests.2)
+      ∙ makes_again reply_row bytes no_digits row_distinct (sound_slotted reply_row row_sound) size refl tests.0 tests.1 tests.2
 
 -- what is read: a reply that no rule refuses, and its characters
 pub record Accepted (bytes : List ℕ) (reply : Reply) : Type 0 where

@@ -1,30 +1,33 @@
-// The listing on standard output: each row is handed on when its event has come.
+// The listing, handed to a writer: each row goes out when its event has come.
 #![tactic(auto)]
 
-ghost use Rattle.std.specs.Prelude.{◌≡◌, min};
+ghost use Rattle.std.specs.Prelude.{◌≡◌, ◌++◌, min, take, OnOk};
+ghost use Rattle.std.specs.Io.KnownBytes.{Appends};
 ghost use Rattle.line.specs.Readers.{fresh_in, fresh_reader, end_reader};
-ghost use Rattle.listing_of_lines.specs.Pages.{page_of};
+ghost use Rattle.listing_rules.specs.Listing.{header_row, stray_row};
+ghost use Rattle.listing_of_lines.specs.Pages.{page_of, row_for};
 ghost use Rattle.listing_output.specs.declared.Output.TheVariants.{Whole};
-ghost use Rattle.listing_output.specs.Printing.{page_room, after_piece, printed, printed_row};
+ghost use Rattle.listing_output.specs.Printing.{page_room, after_piece, printed, printed_row, bytes_of, piece_rows, end_rows, IsSent, IsRowSent, IsSilentUnlessWhole};
 
-use libc::STDOUT_FILENO;
 use line::{Heard, Reader};
 use listing::{LONGEST_ROW, RowAnswer};
 use refusals::STATE_ILL_FORMED;
+use std::io;
+use std::io::Write;
 use trailer::Order;
 
 // How the output stands. Once it is not whole, nothing more is written.
-#[derive(Drop)]
+#[derive(Clone, Copy)]
 pub enum Output {
     Whole,
-    // A write did not go through; errno says why.
-    Failed,
+    // A write did not go through, for this reason.
+    Failed(io::Error),
     // Something was refused with this number.
     Refused(u8),
 }
 
 // The reader of the line so far, and how the output stands.
-#[derive(Drop)]
+#[derive(Clone, Copy)]
 pub struct Printer {
     pub reader: Reader,
     pub output: Output,
@@ -33,12 +36,12 @@ pub struct Printer {
 // Room for the rows that are written at once.
 const PAGE: usize = 4096;
 
-// What was taken of a piece, and whether its rows went out.
+// What was taken of a piece, and how its rows went out.
 #[derive(Drop)]
 struct Sheet {
     reader: Reader,
     taken: usize,
-    is_written: bool,
+    written: io::Result<()>,
 }
 
 fn smaller(a: usize, b: usize) -> usize
@@ -51,70 +54,79 @@ fn smaller(a: usize, b: usize) -> usize
 }
 
 // Writes the first bytes of a buffer.
-fn print(out: &[u8], count: usize) -> bool {
+fn print<W: Write>(to: &mut W, out: &[u8], count: usize) -> io::Result<()>
+    ensures { OnOk result (Appends (W.contents to.old) (W.contents to.new) (take count out.now)) }
+{
     let end = smaller(count, out.len());
-    io::write_all(STDOUT_FILENO, &out[0..end])
+    to.write_all(&out[0..end])
 }
 
 // Writes a row that was made at the front of a buffer.
-pub fn print_row(made: RowAnswer, out: &[u8]) -> Output
-    ensures { result ≡ printed_row made result }
+pub fn print_row<W: Write>(to: &mut W, made: RowAnswer, out: &[u8]) -> Output
+    ensures told { result ≡ printed_row made result }
+    ensures sent { IsRowSent made result (W.contents to.old) (W.contents to.new) out.now }
 {
     match made {
-        RowAnswer::Written(count) => {
-            if print(out, count) {
-                return Output::Whole;
-            }
-            Output::Failed
-        }
+        RowAnswer::Written(count) => match print(to, out, count) {
+            Ok(()) => Output::Whole,
+            Err(why) => Output::Failed(why),
+        },
         RowAnswer::Refused(number) => Output::Refused(number),
     }
 }
 
-fn print_header() -> Output {
+fn print_header<W: Write>(to: &mut W) -> Output
+    ensures { IsSent result (W.contents to.old) (W.contents to.new) header_row }
+{
     let mut out = [0u8; LONGEST_ROW];
     let made = listing::rows::header(&mut out);
-    print_row(made, &out)
+    print_row(to, made, &out)
 }
 
-fn print_stray(stray: u32) -> Output {
+fn print_stray<W: Write>(to: &mut W, stray: u32) -> Output
+    ensures { IsSent result (W.contents to.old) (W.contents to.new) (stray_row stray) }
+{
     let mut out = [0u8; LONGEST_ROW];
     let made = listing::rows::stray_line(stray, &mut out);
-    print_row(made, &out)
+    print_row(to, made, &out)
 }
 
 // The last event's row, if there is one, and the line with the count of stray bytes.
-fn print_last(heard: Heard, stray: u32) -> Output {
+fn print_last<W: Write>(to: &mut W, heard: Heard, stray: u32) -> Output
+    ensures { IsSent result (W.contents to.old) (W.contents to.new) (bytes_of (row_for heard) ++ stray_row stray) }
+{
     let mut out = [0u8; LONGEST_ROW];
     let made = listing_of_lines::row_for(heard, &mut out);
-    match print_row(made, &out) {
-        Output::Whole => print_stray(stray),
-        Output::Failed => Output::Failed,
+    match print_row(to, made, &out) {
+        Output::Whole => print_stray(to, stray),
+        Output::Failed(why) => Output::Failed(why),
         Output::Refused(number) => Output::Refused(number),
     }
 }
 
 // The rows of as much of a piece as one buffer takes.
-fn print_page(reader: Reader, piece: &[u8]) -> Sheet
-    ensures { (result.reader ≡ (page_of page_room reader piece.now).reader) × (result.taken ≡ (page_of page_room reader piece.now).taken) }
+fn print_page<W: Write>(to: &mut W, reader: Reader, piece: &[u8]) -> Sheet
+    ensures reader { result.reader ≡ (page_of page_room reader piece.now).reader }
+    ensures taken { result.taken ≡ (page_of page_room reader piece.now).taken }
+    ensures sent { OnOk result.written (Appends (W.contents to.old) (W.contents to.new) (page_of page_room reader piece.now).bytes) }
 {
     let mut out = [0u8; PAGE];
     let listed = listing_of_lines::list(reader, piece, &mut out);
-    let next = listed.reader;
     Sheet {
-        reader: next,
+        reader: listed.reader,
         taken: listed.taken,
-        is_written: print(&out, listed.used),
+        written: print(to, &out, listed.used),
     }
 }
 
 // Uses a piece up, page by page. Where a write fails the reader comes back as it was.
-fn print_piece(reader: Reader, piece: &[u8]) -> Printer
-    ensures { result ≡ printed Whole reader (after_piece reader piece.now) result.output }
+fn print_piece<W: Write>(to: &mut W, reader: Reader, piece: &[u8]) -> Printer
+    ensures left { result ≡ printed Whole reader (after_piece reader piece.now) result.output }
+    ensures sent { IsSent result.output (W.contents to.old) (W.contents to.new) (piece_rows reader piece.now) }
 {
     if !reader.is_well_formed() {
         return Printer {
-            reader: reader,
+            reader,
             output: Output::Refused(STATE_ILL_FORMED),
         };
     }
@@ -122,13 +134,13 @@ fn print_piece(reader: Reader, piece: &[u8]) -> Printer
     let mut next = reader;
     let mut at: usize = 0;
     while at < length {
-        let sheet = print_page(next, &piece[at..length]);
+        let sheet = print_page(to, next, &piece[at..length]);
         next = sheet.reader;
         at += sheet.taken;
-        if !sheet.is_written {
+        if let Err(why) = sheet.written {
             return Printer {
-                reader: reader,
-                output: Output::Failed,
+                reader,
+                output: Output::Failed(why),
             };
         }
     }
@@ -138,29 +150,28 @@ fn print_piece(reader: Reader, piece: &[u8]) -> Printer
     }
 }
 
-fn print_end(reader: Reader) -> Printer
-    ensures { result ≡ printed Whole reader (end_reader reader).reader result.output }
+fn print_end<W: Write>(to: &mut W, reader: Reader) -> Printer
+    ensures left { result ≡ printed Whole reader (end_reader reader).reader result.output }
+    ensures sent { IsSent result.output (W.contents to.old) (W.contents to.new) (end_rows reader) }
 {
     if !reader.is_well_formed() {
         return Printer {
-            reader: reader,
+            reader,
             output: Output::Refused(STATE_ILL_FORMED),
         };
     }
     let ended = reader.end();
-    let next = ended.reader;
-    let heard = ended.heard;
-    match print_last(heard, reader.stray) {
+    match print_last(to, ended.heard, reader.stray) {
         Output::Whole => Printer {
-            reader: next,
+            reader: ended.reader,
             output: Output::Whole,
         },
-        Output::Failed => Printer {
-            reader: reader,
-            output: Output::Failed,
+        Output::Failed(why) => Printer {
+            reader,
+            output: Output::Failed(why),
         },
         Output::Refused(number) => Printer {
-            reader: reader,
+            reader,
             output: Output::Refused(number),
         },
     }
@@ -168,42 +179,46 @@ fn print_end(reader: Reader) -> Printer
 
 impl Printer {
     // A fresh reader, as printed; the header is written.
-    pub fn start() -> Printer
-        ensures { result.reader ≡ fresh_reader }
+    pub fn start<W: Write>(to: &mut W) -> Printer
+        ensures reader { result.reader ≡ fresh_reader }
+        ensures sent { IsSent result.output (W.contents to.old) (W.contents to.new) header_row }
     {
-        Printer::start_in(Order::AsPrinted)
+        Printer::start_in(to, Order::AsPrinted)
     }
 
     // The same for a line in a named order.
-    pub fn start_in(order: Order) -> Printer
-        ensures { result.reader ≡ fresh_in order }
+    pub fn start_in<W: Write>(to: &mut W, order: Order) -> Printer
+        ensures reader { result.reader ≡ fresh_in order }
+        ensures sent { IsSent result.output (W.contents to.old) (W.contents to.new) header_row }
     {
         Printer {
             reader: Reader::fresh_in(order),
-            output: print_header(),
+            output: print_header(to),
         }
     }
 
     // Uses a piece up, and writes the rows of its events.
-    pub fn piece(self, piece: &[u8]) -> Printer
-        ensures { result ≡ printed self.output self.reader (after_piece self.reader piece.now) result.output }
+    pub fn piece<W: Write>(self, to: &mut W, piece: &[u8]) -> Printer
+        ensures left { result ≡ printed self.output self.reader (after_piece self.reader piece.now) result.output }
+        ensures sent { IsSent result.output (W.contents to.old) (W.contents to.new) (piece_rows self.reader piece.now) }
+        ensures silent { IsSilentUnlessWhole self.output (W.contents to.old) (W.contents to.new) }
     {
-        let output = self.output;
-        match output {
-            Output::Whole => print_piece(self.reader, piece),
-            Output::Failed => self,
+        match self.output {
+            Output::Whole => print_piece(to, self.reader, piece),
+            Output::Failed(_) => self,
             Output::Refused(_) => self,
         }
     }
 
     // Ends the line: the last event's row, if there is one, and the count of stray bytes are written.
-    pub fn end(self) -> Printer
-        ensures { result ≡ printed self.output self.reader (end_reader self.reader).reader result.output }
+    pub fn end<W: Write>(self, to: &mut W) -> Printer
+        ensures left { result ≡ printed self.output self.reader (end_reader self.reader).reader result.output }
+        ensures sent { IsSent result.output (W.contents to.old) (W.contents to.new) (end_rows self.reader) }
+        ensures silent { IsSilentUnlessWhole self.output (W.contents to.old) (W.contents to.new) }
     {
-        let output = self.output;
-        match output {
-            Output::Whole => print_end(self.reader),
-            Output::Failed => self,
+        match self.output {
+            Output::Whole => print_end(to, self.reader),
+            Output::Failed(_) => self,
             Output::Refused(_) => self,
         }
     }

@@ -6,13 +6,16 @@
 // is bad. Input longer than a piece is worked on piece by piece, each for itself, and the numbers of the pieces are added up.
 #![tactic(auto)]
 
+ghost use Rattle.std.specs.Prelude.{◌≤◌, length, IfOk};
+
 use calendar::date::Date;
 use calendar::time::Time;
-use libc::{STDIN_FILENO, STDOUT_FILENO};
-use line::Reader;
 use delivery_log::add::AddAnswer;
 use delivery_log::verify::Verified;
+use line::Reader;
 use record::{DatedLayout, Reception, Record, RecordAnswer, Status, TimeLayout};
+use std::io;
+use std::io::{ErrorKind, Read};
 use telegram::write::{Choice, Setting, WriteAnswer};
 
 const TELEGRAM: usize = 18;
@@ -69,21 +72,18 @@ fn writes(rec: Record, out: &mut [u8]) -> bool {
     }
 }
 
-// Writes the records one behind another; answers how many bytes they take. Nothing is written where they might not all have room.
-fn write_each(data: &[u8], out: &mut [u8]) -> usize {
-    let length = data.len();
-    if out.len() < length {
-        return 0;
-    }
-    let mut used: usize = 0;
-    let mut at: usize = 0;
-    while at < length && TELEGRAM <= length - at {
-        let end = at + TELEGRAM;
-        let room = used + TELEGRAM;
-        if writes(made(&data[at..end]), &mut out[used..room]) {
-            used = room;
+// Writes the records one behind another, where they have room; answers how many bytes they take.
+fn write_each(data: &[u8], out: &mut [u8]) -> usize
+    ensures { result ≤ length out.new }
+{
+    let mut used = 0;
+    for telegram in data.chunks_exact(TELEGRAM) {
+        let end = used + TELEGRAM;
+        if let Some(room) = out.get_mut(used..end)
+            && writes(made(telegram), room)
+        {
+            used = end;
         }
-        at = end;
     }
     used
 }
@@ -95,25 +95,10 @@ fn reads(bytes: &[u8]) -> bool {
     }
 }
 
-// Prints the first bytes of what was written.
-fn print_first(out: &[u8], count: usize) {
-    if out.len() < count {
-        return;
-    }
-    io::write_all(STDOUT_FILENO, &out[0..count]);
-}
-
 fn read_each(data: &[u8]) -> u64 {
-    let mut good: u64 = 0;
-    let mut at: usize = 0;
-    while at < data.len() && TELEGRAM <= data.len() - at {
-        let end = at + TELEGRAM;
-        if reads(&data[at..end]) {
-            good += 1;
-        }
-        at = end;
-    }
-    good
+    data.chunks_exact(TELEGRAM)
+        .filter(|telegram| reads(telegram))
+        .count() as u64
 }
 
 // Uses a line up, and counts its events.
@@ -153,14 +138,12 @@ fn adds(region: &mut [u8]) -> bool {
 // No region has more free slots than bytes.
 fn added(region: &mut [u8]) -> u64 {
     let length = region.len();
-    let mut count: usize = 0;
-    while count < length {
+    for count in 0..length {
         if !adds(region) {
             return count as u64;
         }
-        count += 1;
     }
-    count as u64
+    length as u64
 }
 
 fn work(mode: u8, data: &mut [u8]) -> u64 {
@@ -176,53 +159,63 @@ fn work(mode: u8, data: &mut [u8]) -> u64 {
     read_each(data)
 }
 
-// Works on the input piece by piece. Nothing says that it ends, so the turns are counted down from a number that no run uses up. A
-// piece that is not full is the last.
-fn count(mode: u8, piece: &mut [u8]) -> u64 {
-    let size = piece.len();
-    let mut good: u64 = 0;
-    let mut more = true;
-    let mut turns = u64::MAX;
-    while turns > 0 && more {
-        let length = io::read_full(STDIN_FILENO, piece);
-        let some = work(mode, &mut piece[..length]);
-        good = std::num::wrapping_add_u64(good, some);
-        more = length == size;
-        turns -= 1;
+// Fills a piece as far as the input goes; answers how many bytes there were. A piece that is not full is the last.
+fn fill<S: Read>(source: &mut S, piece: &mut [u8]) -> io::Result<usize>
+    ensures { IfOk result (λ count. count ≤ length piece.new) }
+{
+    let mut count = 0;
+    for _ in 0..u64::MAX {
+        if count == piece.len() {
+            break;
+        }
+        match source.read(&mut piece[count..]) {
+            Ok(0) => break,
+            Ok(more) => count += more,
+            Err(why) if why.kind() == ErrorKind::Interrupted => {}
+            Err(why) => return Err(why),
+        }
     }
-    good
+    Ok(count)
+}
+
+// Works on the input piece by piece. Nothing says that it ends, so the turns are counted up to a number that no run comes to.
+fn count<S: Read>(source: &mut S, mode: u8, piece: &mut [u8]) -> io::Result<u64> {
+    let mut good: u64 = 0;
+    for _ in 0..u64::MAX {
+        let length = fill(source, piece)?;
+        let some = work(mode, &mut piece[..length]);
+        good = good.wrapping_add(some);
+        if length < piece.len() {
+            break;
+        }
+    }
+    Ok(good)
 }
 
 // Writes the input's records anew, piece by piece.
-fn print_written(piece: &mut [u8], out: &mut [u8]) {
-    let size = piece.len();
-    let mut more = true;
-    let mut turns = u64::MAX;
-    while turns > 0 && more {
-        let length = io::read_full(STDIN_FILENO, piece);
-        let used = write_each(&piece[..length], out);
-        print_first(out, used);
-        more = length == size;
-        turns -= 1;
+fn print_written<S: Read>(rt: &impl Print, source: &mut S, piece: &mut [u8]) -> io::Result<()> {
+    let mut out = [0u8; PIECE];
+    for _ in 0..u64::MAX {
+        let length = fill(source, piece)?;
+        let used = write_each(&piece[..length], &mut out);
+        rt.write_all(&out[..used])?;
+        if length < piece.len() {
+            break;
+        }
     }
+    Ok(())
 }
 
-fn work_on_input(mode: u8, piece: &mut [u8]) {
-    if mode == b'w' {
-        let mut out = io::large_buffer();
-        print_written(piece, &mut out);
-        return;
-    }
-    let good = count(mode, piece);
-    io::print_decimal(STDOUT_FILENO, good);
-    io::write_all(STDOUT_FILENO, b"\n");
-}
-
-fn main() {
+fn main(rt: HostRuntime) -> io::Result<()> {
+    let mut source = rt.reader();
     let mut letter = [0u8; 1];
-    if io::read_full(STDIN_FILENO, &mut letter) == 0 {
-        return;
+    if fill(&mut source, &mut letter)? == 0 {
+        return Ok(());
     }
-    let mut input = io::large_buffer();
-    work_on_input(letter[0], &mut input[..PIECE]);
+    let mut piece = [0u8; PIECE];
+    if letter[0] == b'w' {
+        return print_written(&rt, &mut source, &mut piece);
+    }
+    let good = count(&mut source, letter[0], &mut piece)?;
+    println!(rt; "{good}")
 }

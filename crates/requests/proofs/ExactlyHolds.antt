@@ -13,8 +13,8 @@ use Rattle.refusals.specs.Tables.{EachHolds}
 use Rattle.refusals.proofs.Laws.{both}
 use Rattle.places_rules.specs.Places.{Place, is_decimal, is_capital, code_value, code_character, fixed_holds, decimal_holds, code_holds, every, fault_of, row_fault, gather, no_digits, render}
 use Rattle.places_rules.proofs.Characters.{character_fits, value_of_character}
-use Rattle.places_rules.proofs.Rows.{distinct, slotted, Held}
-use Rattle.places_rules.proofs.RoundTrip.{makes_again, held_gather}
+use Rattle.places_rules.proofs.Rows.{distinct, sound, Held}
+use Rattle.places_rules.proofs.RoundTrip.{makes_again, held_gather, sound_slotted}
 use Rattle.requests.specs.declared.Asked.{Asked}
 use Rattle.requests.specs.declared.Asked.TheVariants.{Time, TimeAndDate, UtcTimeAndDate}
 use Rattle.requests.specs.declared.Request.{Request}
@@ -51,7 +51,7 @@ no_fault true true false e = absurd (omega arith)
 no_fault true false codes e = absurd (omega arith)
 no_fault false decimals codes e = absurd (omega arith)
 
-module _ (row : List Place) (bytes : List ℕ) (alone_in_slot : distinct row ≡ true) (good_row_law : slotted row ≡ true) (fitting : fits row bytes ≡ true) where
+module _ (row : List Place) (bytes : List ℕ) (alone_in_slot : distinct row ≡ true) (good_row_law : sound row ≡ true) (fitting : fits row bytes ≡ true) where
   parts : (eqb (row_fault row bytes) 0 ≡ true) × (eqb (length bytes) (length row) ≡ true)
   parts = both (eqb (row_fault row bytes) 0) (eqb (length bytes) (length row)) fitting
 
@@ -62,21 +62,21 @@ module _ (row : List Place) (bytes : List ℕ) (alone_in_slot : distinct row ≡
   each_fits = no_fault _ _ _ (eqb-true _ 0 parts.0)
 
   made_again : bytes ≡ render row (gather row bytes no_digits)
-  made_again = sym (makes_again row bytes no_digits alone_in_slot good_row_law as_many refl each_fits.0 each_fits.1 each_fits.2)
+  made_again = sym (makes_again row bytes no_digits alone_in_slot (sound_slotted row good_row_law) as_many refl each_fits.0 each_fits.1 each_fits.2)
 
   held : Held row (gather row bytes no_digits)
-  held = held_gather row bytes alone_in_slot good_row_law as_many each_fits.1 each_fits.2
+  held = held_gather row bytes alone_in_slot (sound_slotted row good_row_law) as_many each_fits.1 each_fits.2
 
 -- what each row reads is listed
-alone_slotted : (asked : Asked) → slotted (alone asked) ≡ true
-alone_slotted Time = refl
-alone_slotted TimeAndDate = refl
-alone_slotted UtcTimeAndDate = refl
+alone_sound : (asked : Asked) → sound (alone asked) ≡ true
+alone_sound Time = refl
+alone_sound TimeAndDate = refl
+alone_sound UtcTimeAndDate = refl
 
-delayed_slotted : (asked : Asked) → slotted (delayed asked) ≡ true
-delayed_slotted Time = refl
-delayed_slotted TimeAndDate = refl
-delayed_slotted UtcTimeAndDate = refl
+delayed_sound : (asked : Asked) → sound (delayed asked) ≡ true
+delayed_sound Time = refl
+delayed_sound TimeAndDate = refl
+delayed_sound UtcTimeAndDate = refl
 
 module _ (asked : Asked) (bytes : List ℕ) where
   abbrev read_by : List Place → Request
@@ -85,7 +85,7 @@ module _ (asked : Asked) (bytes : List ℕ) where
   of_alone : fits (alone asked) bytes ≡ true → Listed bytes (read_by (alone asked))
   unfolding render
   of_alone fitting =
-      let text : bytes ≡ at_once asked = made_again (alone asked) bytes refl (alone_slotted asked) fitting in
+      let text : bytes ≡ at_once asked = made_again (alone asked) bytes refl (alone_sound asked) fitting in
       inl (text, ap (λ b. delay_of (gather (alone asked) b no_digits)) text)
 
   of_delayed : fits (delayed asked) bytes ≡ true → Listed bytes (read_by (delayed asked))
@@ -94,12 +94,12 @@ module _ (asked : Asked) (bytes : List ℕ) where
       let digits = gather (delayed asked) bytes no_digits in
       let high = get_or digits 0 0 in
       let low = get_or digits 1 0 in
-      let shown = (held (delayed asked) bytes refl (delayed_slotted asked) fitting).each in
+      let shown = (held (delayed asked) bytes refl (delayed_sound asked) fitting).each in
       let count = 16 * high + low in
       let high_back : high % 16 ≡ count / 16 = omega (arith, shown.1.0, shown.1.1.0) in
       let low_back : low % 16 ≡ count % 16 = omega (arith, shown.1.0, shown.1.1.0) in
       let text : bytes ≡ with_count asked count =
-      made_again (delayed asked) bytes refl (delayed_slotted asked) fitting
+      made_again (delayed asked) bytes refl (delayed_sound asked) fitting
       ∙ ap₂ (λ h l. small_of asked ∷ code_character h ∷ code_character l ∷ []) high_back low_back in
       inr (count, omega (arith, shown.1.0, shown.1.1.0), text, refl)
 

@@ -3,6 +3,7 @@ use super::{inputs, outputs};
 use board::of_6036::Parameter;
 use board::of_6038::ParameterAnswer;
 use board::{ByteAnswer, Parity, of_6038};
+use std::io;
 
 fn parity_number(parity: Parity) -> u64 {
     match parity {
@@ -20,14 +21,14 @@ fn parity(number: u8) -> Parity {
     }
 }
 
-pub(crate) fn reads(bytes: &[u8]) {
+pub(crate) fn reads(rt: &impl Print, bytes: &[u8]) -> io::Result<()> {
     let parameter = board::of_6036::read(inputs::byte(bytes, 0));
     let parity = parameter.parity;
-    outputs::print_flag(parameter.utc);
-    outputs::print(parameter.data_bits as u64);
-    outputs::print(parity_number(parity));
-    outputs::print(parameter.stop_bits as u64);
-    outputs::print(parameter.baud as u64);
+    outputs::print_flag(rt, parameter.utc)?;
+    outputs::print(rt, parameter.data_bits as u64)?;
+    outputs::print(rt, parity_number(parity))?;
+    outputs::print(rt, parameter.stop_bits as u64)?;
+    outputs::print(rt, parameter.baud as u64)
 }
 
 // Eight bytes: UTC, data bits, parity, stop bits, and four for the baud.
@@ -41,33 +42,33 @@ fn setting(bytes: &[u8]) -> Parameter {
     }
 }
 
-fn print_byte(answer: ByteAnswer) {
+fn print_byte(rt: &impl Print, answer: ByteAnswer) -> io::Result<()> {
     match answer {
         ByteAnswer::Byte(byte) => {
-            outputs::print(0);
-            outputs::print(byte as u64);
+            outputs::print(rt, 0)?;
+            outputs::print(rt, byte as u64)
         }
-        ByteAnswer::Refused(number) => outputs::print(number as u64),
+        ByteAnswer::Refused(number) => outputs::print(rt, number as u64),
     }
 }
 
-pub(crate) fn writes(bytes: &[u8]) {
-    print_byte(board::of_6036::write(setting(bytes)));
+pub(crate) fn writes(rt: &impl Print, bytes: &[u8]) -> io::Result<()> {
+    print_byte(rt, board::of_6036::write(setting(bytes)))
 }
 
-fn print_6038(parameter: of_6038::Parameter) {
+fn print_6038(rt: &impl Print, parameter: of_6038::Parameter) -> io::Result<()> {
     let parity = parameter.parity;
-    outputs::print(0);
-    outputs::print(parameter.data_bits as u64);
-    outputs::print(parity_number(parity));
-    outputs::print(parameter.stop_bits as u64);
-    outputs::print(parameter.baud as u64);
+    outputs::print(rt, 0)?;
+    outputs::print(rt, parameter.data_bits as u64)?;
+    outputs::print(rt, parity_number(parity))?;
+    outputs::print(rt, parameter.stop_bits as u64)?;
+    outputs::print(rt, parameter.baud as u64)
 }
 
-pub(crate) fn reads_6038(bytes: &[u8]) {
+pub(crate) fn reads_6038(rt: &impl Print, bytes: &[u8]) -> io::Result<()> {
     match of_6038::read(inputs::byte(bytes, 0)) {
-        ParameterAnswer::Setting(parameter) => print_6038(parameter),
-        ParameterAnswer::Refused(number) => outputs::print(number as u64),
+        ParameterAnswer::Setting(parameter) => print_6038(rt, parameter),
+        ParameterAnswer::Refused(number) => outputs::print(rt, number as u64),
     }
 }
 
@@ -81,6 +82,6 @@ fn setting_6038(bytes: &[u8]) -> of_6038::Parameter {
     }
 }
 
-pub(crate) fn writes_6038(bytes: &[u8]) {
-    print_byte(of_6038::write(setting_6038(bytes)));
+pub(crate) fn writes_6038(rt: &impl Print, bytes: &[u8]) -> io::Result<()> {
+    print_byte(rt, of_6038::write(setting_6038(bytes)))
 }

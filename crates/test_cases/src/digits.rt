@@ -4,17 +4,18 @@ use super::{inputs, outputs};
 use layouts::rows::LayoutAnswer;
 use places::SLOTS;
 use refusals::NONE;
+use std::io;
 
 // A row and the bytes that it is laid on. The digits are printed where none is refused.
-pub(crate) fn scans(bytes: &[u8]) {
+pub(crate) fn scans(rt: &impl Print, bytes: &[u8]) -> io::Result<()> {
     let count = inputs::wide(inputs::byte(bytes, 0));
     let rest = inputs::behind(bytes, 1);
     let found = places::scan(inputs::first(rest, count), inputs::behind(rest, count));
-    outputs::print(found.fault as u64);
+    outputs::print(rt, found.fault as u64)?;
     if found.fault == NONE {
-        let digits = found.digits;
-        outputs::print_bytes(&digits);
+        outputs::print_bytes(rt, &found.digits)?;
     }
+    Ok(())
 }
 
 // Lays a row over the first bytes of a buffer.
@@ -26,7 +27,7 @@ fn render_in(out: &mut [u8], room: usize, row: &[u8], digits: &[u8; SLOTS]) {
 }
 
 // A row, digits, and the buffer's length.
-pub(crate) fn renders(bytes: &[u8]) {
+pub(crate) fn renders(rt: &impl Print, bytes: &[u8]) -> io::Result<()> {
     let count = inputs::wide(inputs::byte(bytes, 0));
     let rest = inputs::behind(bytes, 1);
     let others = inputs::behind(rest, count);
@@ -34,44 +35,44 @@ pub(crate) fn renders(bytes: &[u8]) {
     let digits = inputs::digits(others);
     let mut out = [inputs::UNTOUCHED; 32];
     render_in(&mut out, room, inputs::first(rest, count), &digits);
-    outputs::print_bytes(&out);
+    outputs::print_bytes(rt, &out)
 }
 
-fn print_part(bytes: &[u8], start: usize, end: usize) {
+fn print_part(rt: &impl Print, bytes: &[u8], start: usize, end: usize) -> io::Result<()> {
     if bytes.len() < end {
-        return;
+        return Ok(());
     }
     if end < start {
-        return;
+        return Ok(());
     }
-    outputs::print_bytes(&bytes[start..end]);
+    outputs::print_bytes(rt, &bytes[start..end])
 }
 
 // The row of a layout.
-pub(crate) fn row(bytes: &[u8]) {
+pub(crate) fn row(rt: &impl Print, bytes: &[u8]) -> io::Result<()> {
     let rows = layouts::rows::rows();
     let span = layouts::rows::span_of(inputs::layout(inputs::byte(bytes, 0)));
-    print_part(&rows, span.start, span.end);
+    print_part(rt, &rows, span.start, span.end)
 }
 
-pub(crate) fn layout(bytes: &[u8]) {
+pub(crate) fn layout(rt: &impl Print, bytes: &[u8]) -> io::Result<()> {
     match layouts::rows::layout_of(bytes) {
         LayoutAnswer::Found(layout) => {
-            outputs::print(0);
-            outputs::print_layout(layout);
+            outputs::print(rt, 0)?;
+            outputs::print_layout(rt, layout)
         }
-        LayoutAnswer::Refused(number) => outputs::print(number as u64),
+        LayoutAnswer::Refused(number) => outputs::print(rt, number as u64),
     }
 }
 
 // A layout and digits.
-pub(crate) fn record_in(bytes: &[u8]) {
+pub(crate) fn record_in(rt: &impl Print, bytes: &[u8]) -> io::Result<()> {
     let layout = inputs::layout(inputs::byte(bytes, 0));
     let digits = inputs::digits(inputs::behind(bytes, 1));
-    outputs::print_record(layouts::coding::record_in(layout, digits));
+    outputs::print_record(rt, layouts::coding::record_in(layout, digits))
 }
 
-pub(crate) fn digits_out(bytes: &[u8]) {
+pub(crate) fn digits_out(rt: &impl Print, bytes: &[u8]) -> io::Result<()> {
     let digits = layouts::coding::digits_out(inputs::rec(bytes));
-    outputs::print_bytes(&digits);
+    outputs::print_bytes(rt, &digits)
 }

@@ -119,7 +119,9 @@ fn status(bytes: &[u8]) -> Status {
     }
 }
 
-// Thirteen bytes: layout, status, weekday, date, time.
+// A record is handed in as its layout, status, weekday, date and time.
+pub(crate) const RECORD_BYTES: usize = 13;
+
 pub(crate) fn rec(bytes: &[u8]) -> Record {
     let layout = byte(bytes, 0);
     let time = time(behind(bytes, 10));
@@ -163,11 +165,8 @@ pub(crate) fn choice(number: u8) -> Choice {
 
 // Fills all of a buffer with the first bytes.
 fn fill(buffer: &mut [u8], bytes: &[u8]) {
-    let length = buffer.len();
-    let mut at: usize = 0;
-    while at < length {
-        buffer[at] = byte(bytes, at);
-        at += 1;
+    for (at, place) in buffer.iter_mut().enumerate() {
+        *place = byte(bytes, at);
     }
 }
 

@@ -59,94 +59,97 @@ mod rows;
 mod telegrams;
 mod trailers;
 
-use libc::STDIN_FILENO;
+use std::io;
+use std::io::{ErrorKind, Read};
 
-fn run(letter: u8, bytes: &[u8]) {
+// No case is longer.
+const ROOM: usize = 8192;
+
+fn run(rt: &impl Print, letter: u8, bytes: &[u8]) -> io::Result<()> {
     match letter {
-        b'D' => dates::day_number(bytes),
-        b'd' => dates::date(bytes),
-        b'n' => dates::next_day(bytes),
-        b'M' => dates::days_in_month(bytes),
-        b'y' => dates::day_of_year(bytes),
-        b'T' => dates::second_of_day(bytes),
-        b't' => dates::next_second(bytes),
-        b'h' => dates::time_in_range(bytes),
-        b'J' => records::refusal(bytes),
-        b'B' => records::table_of_6021(bytes),
-        b'N' => records::next_second(bytes),
-        b'C' => records::count(bytes),
-        b'Z' => records::to_utc(bytes),
-        b'U' => records::utc_seconds(bytes),
-        b'K' => records::step_in_place(bytes),
-        b'k' => records::step(bytes),
-        b'P' => boards::reads(bytes),
-        b'Q' => boards::writes(bytes),
-        b'p' => boards::reads_6038(bytes),
-        b's' => boards::writes_6038(bytes),
-        b'A' => digits::scans(bytes),
-        b'a' => digits::renders(bytes),
-        b'O' => digits::row(bytes),
-        b'L' => digits::layout(bytes),
-        b'I' => digits::record_in(bytes),
-        b'i' => digits::digits_out(bytes),
-        b'R' => telegrams::reads(bytes, true),
-        b'r' => telegrams::reads(bytes, false),
-        b'Y' => telegrams::reads_in(bytes),
-        b'x' => trailers::tries(bytes),
-        b'W' => telegrams::writes(bytes),
-        b'S' => telegrams::writes_several(bytes),
-        b'f' => lines::fresh(),
-        b'g' => lines::fresh_in(bytes),
-        b'w' => lines::is_well_formed(bytes),
-        b'F' => lines::feeds(bytes),
-        b'V' => lines::uses_up(bytes),
-        b'E' => lines::ends(bytes),
-        b'o' => lines::takes_over(bytes),
-        b'H' => rows::header(bytes),
-        b'G' => rows::row(bytes),
-        b'X' => rows::stray_line(bytes),
-        b'l' => replies::reads(bytes),
-        b'e' => replies::writes(bytes),
-        b'q' => request_letters::reads(bytes),
-        _ => {}
-    }
-    outputs::end_line();
+        b'D' => dates::day_number(rt, bytes),
+        b'd' => dates::date(rt, bytes),
+        b'n' => dates::next_day(rt, bytes),
+        b'M' => dates::days_in_month(rt, bytes),
+        b'y' => dates::day_of_year(rt, bytes),
+        b'T' => dates::second_of_day(rt, bytes),
+        b't' => dates::next_second(rt, bytes),
+        b'h' => dates::time_in_range(rt, bytes),
+        b'J' => records::refusal(rt, bytes),
+        b'B' => records::table_of_6021(rt, bytes),
+        b'N' => records::next_second(rt, bytes),
+        b'C' => records::count(rt, bytes),
+        b'Z' => records::to_utc(rt, bytes),
+        b'U' => records::utc_seconds(rt, bytes),
+        b'K' => records::step_in_place(rt, bytes),
+        b'k' => records::step(rt, bytes),
+        b'P' => boards::reads(rt, bytes),
+        b'Q' => boards::writes(rt, bytes),
+        b'p' => boards::reads_6038(rt, bytes),
+        b's' => boards::writes_6038(rt, bytes),
+        b'A' => digits::scans(rt, bytes),
+        b'a' => digits::renders(rt, bytes),
+        b'O' => digits::row(rt, bytes),
+        b'L' => digits::layout(rt, bytes),
+        b'I' => digits::record_in(rt, bytes),
+        b'i' => digits::digits_out(rt, bytes),
+        b'R' => telegrams::reads(rt, bytes, true),
+        b'r' => telegrams::reads(rt, bytes, false),
+        b'Y' => telegrams::reads_in(rt, bytes),
+        b'x' => trailers::tries(rt, bytes),
+        b'W' => telegrams::writes(rt, bytes),
+        b'S' => telegrams::writes_several(rt, bytes),
+        b'f' => lines::fresh(rt),
+        b'g' => lines::fresh_in(rt, bytes),
+        b'w' => lines::is_well_formed(rt, bytes),
+        b'F' => lines::feeds(rt, bytes),
+        b'V' => lines::uses_up(rt, bytes),
+        b'E' => lines::ends(rt, bytes),
+        b'o' => lines::takes_over(rt, bytes),
+        b'H' => rows::header(rt, bytes),
+        b'G' => rows::row(rt, bytes),
+        b'X' => rows::stray_line(rt, bytes),
+        b'l' => replies::reads(rt, bytes),
+        b'e' => replies::writes(rt, bytes),
+        b'q' => request_letters::reads(rt, bytes),
+        _ => Ok(()),
+    }?;
+    outputs::end_line(rt)
 }
 
-// Fills the first bytes of a buffer from standard input; answers whether there were so many.
-fn read_bytes(bytes: &mut [u8], length: usize) -> bool {
-    if bytes.len() < length {
-        return false;
+// Fills a buffer; answers whether there were so many bytes.
+fn read_bytes<S: Read>(source: &mut S, bytes: &mut [u8]) -> io::Result<bool> {
+    match source.read_exact(bytes) {
+        Ok(()) => Ok(true),
+        Err(why) if why.kind() == ErrorKind::UnexpectedEof => Ok(false),
+        Err(why) => Err(why),
     }
-    io::read_full(STDIN_FILENO, &mut bytes[0..length]) == length
-}
-
-fn run_first(letter: u8, bytes: &[u8], length: usize) {
-    if bytes.len() < length {
-        return;
-    }
-    run(letter, &bytes[0..length]);
 }
 
 // Reads one case and runs it; answers whether there was one.
-fn next_case() -> bool {
+fn next_case<S: Read>(rt: &impl Print, source: &mut S) -> io::Result<bool> {
     let mut head = [0u8; 3];
-    if !read_bytes(&mut head, 3) {
-        return false;
+    if !read_bytes(source, &mut head)? {
+        return Ok(false);
     }
     let length = inputs::number_16(inputs::behind(&head, 1)) as usize;
-    let mut bytes = [0u8; 8192];
-    if !read_bytes(&mut bytes, length) {
-        return false;
+    let mut room = [0u8; ROOM];
+    if let Some(bytes) = room.get_mut(..length)
+        && read_bytes(source, bytes)?
+    {
+        run(rt, head[0], bytes)?;
+        return Ok(true);
     }
-    run_first(head[0], &bytes, length);
-    true
+    Ok(false)
 }
 
-// Nothing says that the input ends, so the turns are counted down from a number that no run uses up.
-fn main() {
-    let mut turns = u64::MAX;
-    while turns > 0 && next_case() {
-        turns -= 1;
+// Nothing says that the input ends, so the turns are counted up to a number that no run comes to.
+fn main(rt: HostRuntime) -> io::Result<()> {
+    let mut source = rt.reader();
+    for _ in 0..u64::MAX {
+        if !next_case(&rt, &mut source)? {
+            break;
+        }
     }
+    Ok(())
 }

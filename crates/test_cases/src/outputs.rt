@@ -3,28 +3,27 @@ use calendar::date::Date;
 use calendar::time::Time;
 use layouts::Layout;
 use lent_buffer::Ending;
-use libc::STDOUT_FILENO;
 use line::pieces::{ROOM, Slot};
 use line::{Heard, Reader};
 use record::{DatedLayout, Reception, Record, RecordAnswer, Status, TimeLayout};
+use std::io;
 use takeover::Kept;
 use trailer::Order;
 
-pub(crate) fn print(n: u64) {
-    io::print_decimal(STDOUT_FILENO, n);
-    io::write_all(STDOUT_FILENO, b" ");
+pub(crate) fn print(rt: &impl Print, n: u64) -> io::Result<()> {
+    print!(rt; "{n} ")
 }
 
 // A refusal's number, or 0.
-pub(crate) fn print_ending(ending: Ending) {
+pub(crate) fn print_ending(rt: &impl Print, ending: Ending) -> io::Result<()> {
     match ending {
-        Ending::Whole => print(0),
-        Ending::Refused(number) => print(number as u64),
+        Ending::Whole => print(rt, 0),
+        Ending::Refused(number) => print(rt, number as u64),
     }
 }
 
-pub(crate) fn end_line() {
-    io::write_all(STDOUT_FILENO, b"\n");
+pub(crate) fn end_line(rt: &impl Print) -> io::Result<()> {
+    println!(rt)
 }
 
 fn flag(on: bool) -> u64 {
@@ -52,10 +51,10 @@ fn time_layout_number(layout: TimeLayout) -> u64 {
     }
 }
 
-pub(crate) fn print_layout(layout: Layout) {
+pub(crate) fn print_layout(rt: &impl Print, layout: Layout) -> io::Result<()> {
     match layout {
-        Layout::Dated(dated) => print(layout_number(dated)),
-        Layout::TimeOnly(brief) => print(time_layout_number(brief)),
+        Layout::Dated(dated) => print(rt, layout_number(dated)),
+        Layout::TimeOnly(brief) => print(rt, time_layout_number(brief)),
     }
 }
 
@@ -68,82 +67,81 @@ fn reception_number(reception: Reception) -> u64 {
     }
 }
 
-pub(crate) fn print_flag(on: bool) {
-    print(flag(on));
+pub(crate) fn print_flag(rt: &impl Print, on: bool) -> io::Result<()> {
+    print(rt, flag(on))
 }
 
-fn print_status(status: Status) {
+fn print_status(rt: &impl Print, status: Status) -> io::Result<()> {
     let reception = status.reception;
-    print(reception_number(reception));
-    print_flag(status.daylight);
-    print_flag(status.utc);
-    print_flag(status.announced);
+    print(rt, reception_number(reception))?;
+    print_flag(rt, status.daylight)?;
+    print_flag(rt, status.utc)?;
+    print_flag(rt, status.announced)
 }
 
-pub(crate) fn print_date(date: Date) {
-    print(date.year as u64);
-    print(date.month as u64);
-    print(date.day as u64);
+pub(crate) fn print_date(rt: &impl Print, date: Date) -> io::Result<()> {
+    print(rt, date.year as u64)?;
+    print(rt, date.month as u64)?;
+    print(rt, date.day as u64)
 }
 
-pub(crate) fn print_time(time: Time) {
-    print(time.hour as u64);
-    print(time.minute as u64);
-    print(time.second as u64);
+pub(crate) fn print_time(rt: &impl Print, time: Time) -> io::Result<()> {
+    print(rt, time.hour as u64)?;
+    print(rt, time.minute as u64)?;
+    print(rt, time.second as u64)
 }
 
 // A record: its layout, and its fields in the order of their declaration.
-pub(crate) fn print_record(rec: Record) {
+pub(crate) fn print_record(rt: &impl Print, rec: Record) -> io::Result<()> {
     match rec {
         Record::Dated(layout, status, weekday, date, time) => {
-            print(layout_number(layout));
-            print_status(status);
-            print(weekday as u64);
-            print_date(date);
-            print_time(time);
+            print(rt, layout_number(layout))?;
+            print_status(rt, status)?;
+            print(rt, weekday as u64)?;
+            print_date(rt, date)?;
+            print_time(rt, time)
         }
         Record::TimeOnly(layout, time) => {
-            print(time_layout_number(layout));
-            print_time(time);
+            print(rt, time_layout_number(layout))?;
+            print_time(rt, time)
         }
     }
 }
 
-pub(crate) fn print_answer(answer: RecordAnswer) {
+pub(crate) fn print_answer(rt: &impl Print, answer: RecordAnswer) -> io::Result<()> {
     match answer {
         RecordAnswer::Good(rec) => {
-            print(0);
-            print_record(rec);
+            print(rt, 0)?;
+            print_record(rt, rec)
         }
-        RecordAnswer::Refused(number) => print(number as u64),
+        RecordAnswer::Refused(number) => print(rt, number as u64),
     }
 }
 
-fn print_byte(byte: u8) {
-    print(byte as u64);
+fn print_byte(rt: &impl Print, byte: u8) -> io::Result<()> {
+    print(rt, byte as u64)
 }
 
-pub(crate) fn print_bytes(bytes: &[u8]) {
-    let mut at: usize = 0;
-    while at < bytes.len() {
-        print_byte(bytes[at]);
-        at += 1;
+pub(crate) fn print_bytes(rt: &impl Print, bytes: &[u8]) -> io::Result<()> {
+    for byte in bytes {
+        print_byte(rt, *byte)?;
     }
+    Ok(())
 }
 
 // Nothing is 0; an event is 1, its position, its length and its outcome; a refused state is 2 and its number.
-pub(crate) fn print_heard(heard: Heard) {
+pub(crate) fn print_heard(rt: &impl Print, heard: Heard) -> io::Result<()> {
     match heard {
-        Heard::Nothing => print(0),
+        Heard::Nothing => print(rt, 0),
         Heard::Event(answer, start, length) => {
-            print(1);
-            print(start as u64);
-            print(length as u64);
-            print_answer(answer);
+            print(rt, 1)?;
+            print(rt, start as u64)?;
+            print(rt, length as u64)?;
+            print_answer(rt, answer)
         }
         Heard::Refused(number) => {
-            print(2);
-            print(number as u64);
+            print(rt, 2)?;
+            print(rt, number as u64)
         }
     }
 }
@@ -156,38 +154,51 @@ fn order_number(order: Order) -> u64 {
 }
 
 // What a state has behind its places.
-fn print_counts(len: usize, fed: u32, stray: u32, start: u32, order: Order) {
-    print(len as u64);
-    print(fed as u64);
-    print(stray as u64);
-    print(start as u64);
-    print(order_number(order));
+fn print_counts(
+    rt: &impl Print,
+    len: usize,
+    fed: u32,
+    stray: u32,
+    start: u32,
+    order: Order,
+) -> io::Result<()> {
+    print(rt, len as u64)?;
+    print(rt, fed as u64)?;
+    print(rt, stray as u64)?;
+    print(rt, start as u64)?;
+    print(rt, order_number(order))
 }
 
-pub(crate) fn print_reader(reader: Reader) {
+pub(crate) fn print_reader(rt: &impl Print, reader: Reader) -> io::Result<()> {
     let held = reader.held;
     let order = reader.order;
-    print_bytes(&held);
-    print_counts(reader.len, reader.fed, reader.stray, reader.start, order);
+    print_bytes(rt, &held)?;
+    print_counts(
+        rt,
+        reader.len,
+        reader.fed,
+        reader.stray,
+        reader.start,
+        order,
+    )
 }
 
-pub(crate) fn print_kept(kept: Kept) {
+pub(crate) fn print_kept(rt: &impl Print, kept: Kept) -> io::Result<()> {
     let held = kept.held;
     let order = kept.order;
-    print_bytes(&held);
-    print_counts(kept.len, kept.fed, kept.stray, kept.start, order);
+    print_bytes(rt, &held)?;
+    print_counts(rt, kept.len, kept.fed, kept.stray, kept.start, order)
 }
 
-fn print_slot(slot: Slot) {
+fn print_slot(rt: &impl Print, slot: Slot) -> io::Result<()> {
     let heard = slot.heard;
-    print_heard(heard);
+    print_heard(rt, heard)
 }
 
 // The first so many of the events that were handed on.
-pub(crate) fn print_slots(slots: [Slot; ROOM], count: usize) {
-    let mut at: usize = 0;
-    while at < ROOM && at < count {
-        print_slot(slots[at]);
-        at += 1;
+pub(crate) fn print_slots(rt: &impl Print, slots: [Slot; ROOM], count: usize) -> io::Result<()> {
+    for slot in slots.iter().take(count) {
+        print_slot(rt, *slot)?;
     }
+    Ok(())
 }

@@ -3,62 +3,63 @@ use super::{inputs, outputs};
 use clock::{Clock, StepAnswer, Stepped};
 use record::season::{Count, LocalSeconds, UtcAnswer};
 use record::utc::CountAnswer;
+use std::io;
 
-pub(crate) fn refusal(bytes: &[u8]) {
-    outputs::print(record::rule::refusal(inputs::rec(bytes)) as u64);
+pub(crate) fn refusal(rt: &impl Print, bytes: &[u8]) -> io::Result<()> {
+    outputs::print(rt, record::rule::refusal(inputs::rec(bytes)) as u64)
 }
 
-pub(crate) fn table_of_6021(bytes: &[u8]) {
+pub(crate) fn table_of_6021(rt: &impl Print, bytes: &[u8]) -> io::Result<()> {
     let layout = inputs::dated_layout(inputs::byte(bytes, 0));
-    outputs::print_flag(record::rule::table_of_6021(layout));
+    outputs::print_flag(rt, record::rule::table_of_6021(layout))
 }
 
-pub(crate) fn next_second(bytes: &[u8]) {
-    outputs::print_answer(record::next::next_second(inputs::rec(bytes)));
+pub(crate) fn next_second(rt: &impl Print, bytes: &[u8]) -> io::Result<()> {
+    outputs::print_answer(rt, record::next::next_second(inputs::rec(bytes)))
 }
 
 // Whether a count is UTC, and the count.
-fn print_count(count: Count) {
+fn print_count(rt: &impl Print, count: Count) -> io::Result<()> {
     match count {
         Count::Local(seconds) => {
-            outputs::print_flag(false);
-            outputs::print(seconds.0 as u64);
+            outputs::print_flag(rt, false)?;
+            outputs::print(rt, seconds.0 as u64)
         }
         Count::Utc(seconds) => {
-            outputs::print_flag(true);
-            outputs::print(seconds.0 as u64);
+            outputs::print_flag(rt, true)?;
+            outputs::print(rt, seconds.0 as u64)
         }
     }
 }
 
-pub(crate) fn count(bytes: &[u8]) {
+pub(crate) fn count(rt: &impl Print, bytes: &[u8]) -> io::Result<()> {
     match record::utc::count(inputs::rec(bytes)) {
         CountAnswer::Counted(count) => {
-            outputs::print(0);
-            print_count(count);
+            outputs::print(rt, 0)?;
+            print_count(rt, count)
         }
-        CountAnswer::Refused(number) => outputs::print(number as u64),
+        CountAnswer::Refused(number) => outputs::print(rt, number as u64),
     }
 }
 
-fn print_utc(answer: UtcAnswer) {
+fn print_utc(rt: &impl Print, answer: UtcAnswer) -> io::Result<()> {
     match answer {
         UtcAnswer::Utc(seconds) => {
-            outputs::print(0);
-            outputs::print(seconds.0 as u64);
+            outputs::print(rt, 0)?;
+            outputs::print(rt, seconds.0 as u64)
         }
-        UtcAnswer::Refused(number) => outputs::print(number as u64),
+        UtcAnswer::Refused(number) => outputs::print(rt, number as u64),
     }
 }
 
 // Whether it is daylight time, and local seconds.
-pub(crate) fn to_utc(bytes: &[u8]) {
+pub(crate) fn to_utc(rt: &impl Print, bytes: &[u8]) -> io::Result<()> {
     let local = LocalSeconds(inputs::number_32(inputs::behind(bytes, 1)));
-    print_utc(record::season::to_utc(local, inputs::flag(bytes, 0)));
+    print_utc(rt, record::season::to_utc(local, inputs::flag(bytes, 0)))
 }
 
-pub(crate) fn utc_seconds(bytes: &[u8]) {
-    print_utc(record::utc::utc_seconds(inputs::rec(bytes)));
+pub(crate) fn utc_seconds(rt: &impl Print, bytes: &[u8]) -> io::Result<()> {
+    print_utc(rt, record::utc::utc_seconds(inputs::rec(bytes)))
 }
 
 fn clock(bytes: &[u8]) -> Clock {
@@ -68,21 +69,18 @@ fn clock(bytes: &[u8]) -> Clock {
 }
 
 // What the step answers, and the clock that is left.
-fn print_stepped(stepped: Stepped) {
-    let answer = stepped.answer;
-    match answer {
-        StepAnswer::Stepped => outputs::print(0),
-        StepAnswer::Refused(number) => outputs::print(number as u64),
+fn print_stepped(rt: &impl Print, stepped: Stepped) -> io::Result<()> {
+    match stepped.answer {
+        StepAnswer::Stepped => outputs::print(rt, 0)?,
+        StepAnswer::Refused(number) => outputs::print(rt, number as u64)?,
     }
-    let left = stepped.clock;
-    let rec = left.rec;
-    outputs::print_record(rec);
+    outputs::print_record(rt, stepped.clock.rec)
 }
 
-pub(crate) fn step(bytes: &[u8]) {
-    print_stepped(clock(bytes).step());
+pub(crate) fn step(rt: &impl Print, bytes: &[u8]) -> io::Result<()> {
+    print_stepped(rt, clock(bytes).step())
 }
 
-pub(crate) fn step_in_place(bytes: &[u8]) {
-    print_stepped(clock::in_place(clock(bytes)));
+pub(crate) fn step_in_place(rt: &impl Print, bytes: &[u8]) -> io::Result<()> {
+    print_stepped(rt, clock::in_place(clock(bytes)))
 }

@@ -3,26 +3,27 @@ use super::{inputs, outputs};
 use leitch::Reply;
 use leitch::read::ReplyAnswer;
 use leitch::write::WriteAnswer;
+use std::io;
 
 // The fields of a reply in the order of their declaration.
-fn print_reply(reply: Reply) {
+fn print_reply(rt: &impl Print, reply: Reply) -> io::Result<()> {
     let time = reply.time;
     let date = reply.date;
-    outputs::print_time(time);
-    outputs::print(reply.millisecond as u64);
-    outputs::print_date(date);
-    outputs::print(reply.day_of_year as u64);
-    outputs::print(reply.weekday as u64);
-    outputs::print(reply.status as u64);
+    outputs::print_time(rt, time)?;
+    outputs::print(rt, reply.millisecond as u64)?;
+    outputs::print_date(rt, date)?;
+    outputs::print(rt, reply.day_of_year as u64)?;
+    outputs::print(rt, reply.weekday as u64)?;
+    outputs::print(rt, reply.status as u64)
 }
 
-pub(crate) fn reads(bytes: &[u8]) {
+pub(crate) fn reads(rt: &impl Print, bytes: &[u8]) -> io::Result<()> {
     match leitch::read::read(bytes) {
         ReplyAnswer::Good(reply) => {
-            outputs::print(0);
-            print_reply(reply);
+            outputs::print(rt, 0)?;
+            print_reply(rt, reply)
         }
-        ReplyAnswer::Refused(number) => outputs::print(number as u64),
+        ReplyAnswer::Refused(number) => outputs::print(rt, number as u64),
     }
 }
 
@@ -46,20 +47,20 @@ fn write_in(out: &mut [u8], room: usize, reply: Reply) -> WriteAnswer {
     leitch::write::write(reply, &mut out[0..room])
 }
 
-fn print_written(answer: WriteAnswer) {
+fn print_written(rt: &impl Print, answer: WriteAnswer) -> io::Result<()> {
     match answer {
         WriteAnswer::Written(length) => {
-            outputs::print(0);
-            outputs::print(length as u64);
+            outputs::print(rt, 0)?;
+            outputs::print(rt, length as u64)
         }
-        WriteAnswer::Refused(number) => outputs::print(number as u64),
+        WriteAnswer::Refused(number) => outputs::print(rt, number as u64),
     }
 }
 
-pub(crate) fn writes(bytes: &[u8]) {
+pub(crate) fn writes(rt: &impl Print, bytes: &[u8]) -> io::Result<()> {
     let room = inputs::wide(inputs::byte(bytes, 0));
     let reply = reply(inputs::behind(bytes, 1));
     let mut out = [inputs::UNTOUCHED; 32];
-    print_written(write_in(&mut out, room, reply));
-    outputs::print_bytes(&out);
+    print_written(rt, write_in(&mut out, room, reply))?;
+    outputs::print_bytes(rt, &out)
 }

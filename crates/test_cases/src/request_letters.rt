@@ -1,6 +1,7 @@
 // Cases of requests. What is asked for is 0 for the time, 1 for time and date, 2 for UTC time and date.
 use super::outputs;
 use requests::{Asked, Request, RequestAnswer};
+use std::io;
 
 fn asked_number(asked: Asked) -> u64 {
     match asked {
@@ -10,18 +11,18 @@ fn asked_number(asked: Asked) -> u64 {
     }
 }
 
-fn print_request(request: Request) {
+fn print_request(rt: &impl Print, request: Request) -> io::Result<()> {
     let asked = request.asked;
-    outputs::print(asked_number(asked));
-    outputs::print(request.delay_ms as u64);
+    outputs::print(rt, asked_number(asked))?;
+    outputs::print(rt, request.delay_ms as u64)
 }
 
-pub(crate) fn reads(bytes: &[u8]) {
+pub(crate) fn reads(rt: &impl Print, bytes: &[u8]) -> io::Result<()> {
     match requests::read(bytes) {
         RequestAnswer::Good(request) => {
-            outputs::print(0);
-            print_request(request);
+            outputs::print(rt, 0)?;
+            print_request(rt, request)
         }
-        RequestAnswer::Refused(number) => outputs::print(number as u64),
+        RequestAnswer::Refused(number) => outputs::print(rt, number as u64),
     }
 }

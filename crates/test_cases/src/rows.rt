@@ -2,17 +2,18 @@
 use super::{inputs, outputs};
 use listing::RowAnswer;
 use record::RecordAnswer;
+use std::io;
 
 // What stands for an answer where a case asks for a longer buffer than there is.
 const NO_SUCH_ROOM: RowAnswer = RowAnswer::Refused(255);
 
-fn print_written(answer: RowAnswer) {
+fn print_written(rt: &impl Print, answer: RowAnswer) -> io::Result<()> {
     match answer {
         RowAnswer::Written(length) => {
-            outputs::print(0);
-            outputs::print(length as u64);
+            outputs::print(rt, 0)?;
+            outputs::print(rt, length as u64)
         }
-        RowAnswer::Refused(number) => outputs::print(number as u64),
+        RowAnswer::Refused(number) => outputs::print(rt, number as u64),
     }
 }
 
@@ -24,11 +25,11 @@ fn header_in(out: &mut [u8], room: usize) -> RowAnswer {
 }
 
 // The buffer's length.
-pub(crate) fn header(bytes: &[u8]) {
+pub(crate) fn header(rt: &impl Print, bytes: &[u8]) -> io::Result<()> {
     let room = inputs::wide(inputs::byte(bytes, 0));
     let mut out = [inputs::UNTOUCHED; 80];
-    print_written(header_in(&mut out, room));
-    outputs::print_bytes(&out);
+    print_written(rt, header_in(&mut out, room))?;
+    outputs::print_bytes(rt, &out)
 }
 
 // A refusal's number, or 0 and a record.
@@ -48,13 +49,13 @@ fn row_in(out: &mut [u8], room: usize, start: u32, answer: RecordAnswer) -> RowA
 }
 
 // The row's start, the buffer's length, and an outcome.
-pub(crate) fn row(bytes: &[u8]) {
+pub(crate) fn row(rt: &impl Print, bytes: &[u8]) -> io::Result<()> {
     let start = inputs::number_32(bytes);
     let room = inputs::wide(inputs::byte(bytes, 4));
     let answer = outcome(inputs::behind(bytes, 5));
     let mut out = [inputs::UNTOUCHED; 80];
-    print_written(row_in(&mut out, room, start, answer));
-    outputs::print_bytes(&out);
+    print_written(rt, row_in(&mut out, room, start, answer))?;
+    outputs::print_bytes(rt, &out)
 }
 
 fn stray_in(out: &mut [u8], room: usize, stray: u32) -> RowAnswer {
@@ -65,10 +66,10 @@ fn stray_in(out: &mut [u8], room: usize, stray: u32) -> RowAnswer {
 }
 
 // The count of stray bytes, and the buffer's length.
-pub(crate) fn stray_line(bytes: &[u8]) {
+pub(crate) fn stray_line(rt: &impl Print, bytes: &[u8]) -> io::Result<()> {
     let stray = inputs::number_32(bytes);
     let room = inputs::wide(inputs::byte(bytes, 4));
     let mut out = [inputs::UNTOUCHED; 80];
-    print_written(stray_in(&mut out, room, stray));
-    outputs::print_bytes(&out);
+    print_written(rt, stray_in(&mut out, room, stray))?;
+    outputs::print_bytes(rt, &out)
 }

@@ -1,6 +1,7 @@
 // Cases of every trailer: each pair of bytes is put in the trailer's place, and the telegram is read in the order that was asked for.
 use super::{inputs, outputs};
 use record::{Record, RecordAnswer};
+use std::io;
 use std::num::{wrapping_add_u64, wrapping_add_usize};
 use trailer::Order;
 
@@ -12,7 +13,7 @@ const PAIRS: u32 = 65536;
 
 // A telegram whose trailer is tried: how long it is, where the trailer begins, and how it is read. One that is too short to have a
 // trailer is read as it is.
-#[derive(Drop)]
+#[derive(Clone, Copy)]
 struct Tried {
     length: usize,
     has_trailer: bool,
@@ -22,7 +23,7 @@ struct Tried {
 }
 
 // How many were refused with each number; those that read well stand at 0.
-#[derive(Drop)]
+#[derive(Clone, Copy)]
 struct Tally {
     counts: [u64; 9],
 }
@@ -74,58 +75,52 @@ fn counted(tally: Tally, answer: RecordAnswer) -> Tally {
 
 fn tally_of(bytes: &mut [u8], tried: Tried) -> Tally {
     let mut tally = Tally { counts: [0u64; 9] };
-    let mut pair: u32 = 0;
-    while pair < PAIRS {
+    for pair in 0..PAIRS {
         tally = counted(tally, answer_with(bytes, tried, pair));
-        pair += 1;
     }
     tally
 }
 
-fn print_good(rec: Record, pair: u32) {
-    outputs::print((pair / 256 % 256) as u64);
-    outputs::print((pair % 256) as u64);
-    outputs::print_layout(layouts::rows::own_layout(rec));
+fn print_good(rt: &impl Print, rec: Record, pair: u32) -> io::Result<()> {
+    outputs::print(rt, (pair / 256 % 256) as u64)?;
+    outputs::print(rt, (pair % 256) as u64)?;
+    outputs::print_layout(rt, layouts::rows::own_layout(rec))
 }
 
-fn print_if_good(answer: RecordAnswer, pair: u32) {
+fn print_if_good(rt: &impl Print, answer: RecordAnswer, pair: u32) -> io::Result<()> {
     match answer {
-        RecordAnswer::Good(rec) => print_good(rec, pair),
-        RecordAnswer::Refused(_) => {}
+        RecordAnswer::Good(rec) => print_good(rt, rec, pair),
+        RecordAnswer::Refused(_) => Ok(()),
     }
 }
 
-fn print_all_good(bytes: &mut [u8], tried: Tried) {
-    let mut pair: u32 = 0;
-    while pair < PAIRS {
-        print_if_good(answer_with(bytes, tried, pair), pair);
-        pair += 1;
+fn print_all_good(rt: &impl Print, bytes: &mut [u8], tried: Tried) -> io::Result<()> {
+    for pair in 0..PAIRS {
+        print_if_good(rt, answer_with(bytes, tried, pair), pair)?;
     }
+    Ok(())
 }
 
-fn print_counts(tally: Tally) {
-    let counts = tally.counts;
-    let mut number: usize = 1;
-    while number < 9 {
-        outputs::print(counts[number]);
-        number += 1;
+fn print_counts(rt: &impl Print, tally: Tally) -> io::Result<()> {
+    for count in &tally.counts[1..] {
+        outputs::print(rt, *count)?;
     }
+    Ok(())
 }
 
 // The counts of the eight refusals, and then the trailers that were read well, looked for again where there are any.
-fn print_tried(bytes: &mut [u8], tried: Tried) {
+fn print_tried(rt: &impl Print, bytes: &mut [u8], tried: Tried) -> io::Result<()> {
     let tally = tally_of(bytes, tried);
-    print_counts(tally);
+    print_counts(rt, tally)?;
     if tally.counts[0] > 0 {
-        print_all_good(bytes, tried);
+        print_all_good(rt, bytes, tried)?;
     }
+    Ok(())
 }
 
 fn filled(telegram: &[u8], bytes: &mut [u8]) {
-    let mut at: usize = 0;
-    while at < telegram.len() {
-        put(bytes, at, telegram[at]);
-        at += 1;
+    for (at, byte) in telegram.iter().enumerate() {
+        put(bytes, at, *byte);
     }
 }
 
@@ -137,7 +132,7 @@ fn shortest(control: bool) -> usize {
     2
 }
 
-pub(crate) fn tries(bytes: &[u8]) {
+pub(crate) fn tries(rt: &impl Print, bytes: &[u8]) -> io::Result<()> {
     let control = inputs::flag(bytes, 0);
     let telegram = inputs::behind(bytes, 2);
     let length = telegram.len();
@@ -150,5 +145,5 @@ pub(crate) fn tries(bytes: &[u8]) {
     };
     let mut copy = [0u8; ROOM];
     filled(telegram, &mut copy);
-    print_tried(&mut copy, tried);
+    print_tried(rt, &mut copy, tried)
 }

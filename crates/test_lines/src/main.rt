@@ -2,116 +2,118 @@
 // piece; 65535 for a length ends a line, and 65534 at the beginning of one says that it is in exchanged order.
 #![tactic(auto)]
 
-use libc::STDIN_FILENO;
 use listing_output::Printer;
+use std::io;
+use std::io::{ErrorKind, Read, Write};
 use trailer::Order;
 
-const END: u32 = 65535;
+const END: u16 = 65535;
 
-const EXCHANGED: u32 = 65534;
+const EXCHANGED: u16 = 65534;
 
-// What stands for a length where the input ends.
-const NO_MORE: u32 = 65536;
+// No piece is longer.
+const ROOM: usize = 4096;
 
-// The printer of a line, and the length of its next piece.
-#[derive(Drop)]
+// The printer of a line, and the length of its next piece, if there is one.
+#[derive(Clone, Copy)]
 struct Turn {
     printer: Printer,
-    length: u32,
+    length: Option<u16>,
 }
 
-// Fills the first bytes of a buffer from standard input; answers whether there were so many.
-fn read_bytes(bytes: &mut [u8], count: usize) -> bool {
-    if bytes.len() < count {
-        return false;
+// Fills a buffer; answers whether there were so many bytes.
+fn read_bytes<S: Read>(source: &mut S, bytes: &mut [u8]) -> io::Result<bool> {
+    match source.read_exact(bytes) {
+        Ok(()) => Ok(true),
+        Err(why) if why.kind() == ErrorKind::UnexpectedEof => Ok(false),
+        Err(why) => Err(why),
     }
-    io::read_full(STDIN_FILENO, &mut bytes[0..count]) == count
 }
 
-fn joined(high: u8, low: u8) -> u32 {
-    256 * (high as u32) + low as u32
-}
-
-fn read_length() -> u32 {
+// Nothing, where the input ends.
+fn read_length<S: Read>(source: &mut S) -> io::Result<Option<u16>> {
     let mut head = [0u8; 2];
-    if !read_bytes(&mut head, 2) {
-        return NO_MORE;
+    if read_bytes(source, &mut head)? {
+        return Ok(Some(u16::from_be_bytes(head)));
     }
-    joined(head[0], head[1])
-}
-
-fn give(printer: Printer, piece: &[u8], count: usize) -> Printer {
-    if piece.len() < count {
-        return printer;
-    }
-    printer.piece(&piece[0..count])
+    Ok(None)
 }
 
 // Reads a piece and gives it to the printer.
-fn next_piece(printer: Printer, length: u32) -> Turn {
-    let count = length as usize;
-    let mut piece = io::buffer();
-    if !read_bytes(&mut piece, count) {
-        return Turn {
-            printer: printer,
-            length: NO_MORE,
-        };
+fn next_piece<S: Read, W: Write>(
+    source: &mut S,
+    to: &mut W,
+    printer: Printer,
+    length: u16,
+) -> io::Result<Turn> {
+    let mut room = [0u8; ROOM];
+    if let Some(piece) = room.get_mut(..length as usize)
+        && read_bytes(source, piece)?
+    {
+        return Ok(Turn {
+            printer: printer.piece(to, piece),
+            length: read_length(source)?,
+        });
     }
-    let after = give(printer, &piece, count);
-    Turn {
-        printer: after,
-        length: read_length(),
-    }
+    Ok(Turn {
+        printer,
+        length: None,
+    })
 }
 
 // Begins a line by its first length, or by the order before that.
-fn begin(length: u32) -> Turn {
+fn begin<S: Read, W: Write>(source: &mut S, to: &mut W, length: u16) -> io::Result<Turn> {
     if length == EXCHANGED {
-        return Turn {
-            printer: Printer::start_in(Order::Exchanged),
-            length: read_length(),
-        };
+        return Ok(Turn {
+            printer: Printer::start_in(to, Order::Exchanged),
+            length: read_length(source)?,
+        });
     }
-    Turn {
-        printer: Printer::start(),
-        length: length,
-    }
+    Ok(Turn {
+        printer: Printer::start(to),
+        length: Some(length),
+    })
 }
 
 // Ends a line and begins the next, if there is one.
-fn next_line(printer: Printer) -> Turn {
-    let ended = printer.end();
-    let length = read_length();
-    if length == NO_MORE {
-        return Turn {
+fn next_line<S: Read, W: Write>(source: &mut S, to: &mut W, printer: Printer) -> io::Result<Turn> {
+    let ended = printer.end(to);
+    match read_length(source)? {
+        Some(length) => begin(source, to, length),
+        None => Ok(Turn {
             printer: ended,
-            length: NO_MORE,
-        };
+            length: None,
+        }),
     }
-    begin(length)
 }
 
-fn next(printer: Printer, length: u32) -> Turn {
+fn next<S: Read, W: Write>(
+    source: &mut S,
+    to: &mut W,
+    printer: Printer,
+    length: u16,
+) -> io::Result<Turn> {
     if length == END {
-        return next_line(printer);
+        return next_line(source, to, printer);
     }
-    next_piece(printer, length)
+    next_piece(source, to, printer, length)
 }
 
-// Nothing says that the input ends, so the turns are counted down from a number that no run uses up.
-fn main() {
-    let first = read_length();
-    if first == NO_MORE {
-        return;
+// Nothing says that the input ends, so the turns are counted up to a number that no run comes to.
+fn list<S: Read, W: Write>(source: &mut S, to: &mut W) -> io::Result<()> {
+    let Some(first) = read_length(source)? else {
+        return Ok(());
+    };
+    let mut turn = begin(source, to, first)?;
+    for _ in 0..u64::MAX {
+        let Some(length) = turn.length else {
+            break;
+        };
+        turn = next(source, to, turn.printer, length)?;
     }
-    let begun = begin(first);
-    let mut printer = begun.printer;
-    let mut length = begun.length;
-    let mut turns = u64::MAX;
-    while turns > 0 && length != NO_MORE {
-        let turn = next(printer, length);
-        printer = turn.printer;
-        length = turn.length;
-        turns -= 1;
-    }
+    Ok(())
+}
+
+fn main(rt: HostRuntime) -> io::Result<()> {
+    list(&mut rt.reader(), &mut io::writer(&rt))
 }

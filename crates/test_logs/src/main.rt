@@ -14,6 +14,9 @@ mod output;
 mod parts;
 mod rows;
 
+use std::io;
+use std::io::Read;
+
 // No region is longer.
 const ROOM: usize = 4096;
 
@@ -21,54 +24,59 @@ const ROOM: usize = 4096;
 const NO_MORE: u8 = 0;
 
 // Zeros all the room there is; answers the new region's length.
-fn begin(room: &mut [u8; ROOM]) -> usize {
+fn begin<S: Read>(rt: &impl Print, source: &mut S, room: &mut [u8; ROOM]) -> io::Result<usize> {
     *room = [0u8; ROOM];
-    let length = input::number_16();
-    output::word(b"new ");
-    output::number(length as u64);
-    output::end_line();
-    length as usize
+    let length = input::number_16(source)?;
+    println!(rt; "new {length}")?;
+    Ok(length as usize)
 }
 
-fn run(letter: u8, region: &mut [u8]) {
+fn run<S: Read>(rt: &impl Print, source: &mut S, letter: u8, region: &mut [u8]) -> io::Result<()> {
     match letter {
-        b'P' => operations::poke(region),
-        b'A' => operations::add(region),
-        b'R' => operations::read(region),
-        b'V' => operations::verify(region),
-        _ => {}
-    }
+        b'P' => operations::poke(rt, source, region),
+        b'A' => operations::add(rt, source, region),
+        b'R' => operations::read(rt, source, region),
+        b'V' => operations::verify(rt, region),
+        _ => Ok(()),
+    }?;
+    println!(rt)
 }
 
-// Runs an operation on the region, which is the first bytes of the room.
-fn run_within(letter: u8, room: &mut [u8], length: usize) {
-    if room.len() < length {
-        return;
-    }
-    run(letter, &mut room[0..length]);
-    output::end_line();
-}
-
-// Runs one operation; answers the length of the region that it leaves.
-fn next(letter: u8, room: &mut [u8; ROOM], length: usize) -> usize {
+// Runs an operation on the region, which is the first bytes of the room, where it has so many; answers the length of the region that it
+// leaves.
+fn next<S: Read>(
+    rt: &impl Print,
+    source: &mut S,
+    letter: u8,
+    room: &mut [u8; ROOM],
+    length: usize,
+) -> io::Result<usize> {
     if letter == b'N' {
-        return begin(room);
+        return begin(rt, source, room);
     }
     let before = *room;
-    run_within(letter, room, length);
-    rows::print_changed(parts::first(&before, length), parts::first(room, length));
-    length
+    if let Some(region) = room.get_mut(..length) {
+        run(rt, source, letter, region)?;
+    }
+    rows::print_changed(
+        rt,
+        parts::first(&before, length),
+        parts::first(room, length),
+    )?;
+    Ok(length)
 }
 
-// Nothing says that the input ends, so the turns are counted down from a number that no run uses up.
-fn main() {
+// Nothing says that the input ends, so the turns are counted up to a number that no run comes to.
+fn main(rt: HostRuntime) -> io::Result<()> {
+    let mut source = rt.reader();
     let mut room = [0u8; ROOM];
-    let mut length: usize = 0;
-    let mut letter = input::byte();
-    let mut turns = u64::MAX;
-    while turns > 0 && letter != NO_MORE {
-        length = next(letter, &mut room, length);
-        letter = input::byte();
-        turns -= 1;
+    let mut length = 0;
+    for _ in 0..u64::MAX {
+        let letter = input::byte(&mut source)?;
+        if letter == NO_MORE {
+            break;
+        }
+        length = next(&rt, &mut source, letter, &mut room, length)?;
     }
+    Ok(())
 }

@@ -1,7 +1,9 @@
 // The operations of a script: each reads what stands behind its letter and prints its line.
-use super::{input, output, parts};
+use super::{input, output};
 use delivery_log::add::AddAnswer;
 use delivery_log::verify::Verified;
+use std::io;
+use std::io::Read;
 
 // What `number` holds before it is lent.
 const UNTOUCHED: u8 = 255;
@@ -14,49 +16,45 @@ fn store(region: &mut [u8], place: usize, value: u8) {
     region[place] = value;
 }
 
-pub(crate) fn poke(region: &mut [u8]) {
-    let place = input::number_16() as usize;
-    store(region, place, input::byte());
-    output::word(b"poke");
+pub(crate) fn poke<S: Read>(rt: &impl Print, source: &mut S, region: &mut [u8]) -> io::Result<()> {
+    let place = input::number_16(source)? as usize;
+    store(region, place, input::byte(source)?);
+    print!(rt; "poke")
 }
 
-pub(crate) fn add(region: &mut [u8]) {
-    let count = input::byte() as usize;
-    let mut telegram = [0u8; 255];
-    input::fill(&mut telegram, count);
-    output::word(b"add ");
-    match delivery_log::add::add(region, parts::first(&telegram, count)) {
-        AddAnswer::Added(place) => {
-            output::number(place.block as u64);
-            output::word(b" ");
-            output::number(place.slot as u64);
-        }
-        AddAnswer::Refused(number) => output::refused(number),
+pub(crate) fn add<S: Read>(rt: &impl Print, source: &mut S, region: &mut [u8]) -> io::Result<()> {
+    let count = input::byte(source)? as usize;
+    let mut room = [0u8; 255];
+    let telegram = &mut room[..count];
+    input::fill(source, telegram)?;
+    print!(rt; "add ")?;
+    match delivery_log::add::add(region, telegram) {
+        AddAnswer::Added(place) => print!(rt; "{} {}", place.block, place.slot),
+        AddAnswer::Refused(number) => output::refused(rt, number),
     }
 }
 
-pub(crate) fn read(region: &[u8]) {
-    let block = input::number_64() as usize;
-    let slot = input::number_64() as usize;
+pub(crate) fn read<S: Read>(rt: &impl Print, source: &mut S, region: &[u8]) -> io::Result<()> {
+    let block = input::number_64(source)? as usize;
+    let slot = input::number_64(source)? as usize;
     let mut number = UNTOUCHED;
     let telegram = delivery_log::read_back::read_back(region, block, slot, &mut number);
-    output::word(b"read ");
+    print!(rt; "read ")?;
     if number == 0 {
-        output::hex(telegram);
+        output::hex(rt, telegram)
     } else {
-        output::refused(number);
+        output::refused(rt, number)
     }
 }
 
-pub(crate) fn verify(region: &[u8]) {
-    output::word(b"verify ");
+pub(crate) fn verify(rt: &impl Print, region: &[u8]) -> io::Result<()> {
+    print!(rt; "verify ")?;
     match delivery_log::verify::verify(region) {
-        Verified::AllGood => output::word(b"good"),
+        Verified::AllGood => print!(rt; "good"),
         Verified::Bad(number, block) => {
-            output::refused(number);
-            output::word(b" at ");
-            output::number(block as u64);
+            output::refused(rt, number)?;
+            print!(rt; " at {block}")
         }
-        Verified::Refused(number) => output::refused(number),
+        Verified::Refused(number) => output::refused(rt, number),
     }
 }

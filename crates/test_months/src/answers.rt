@@ -4,11 +4,12 @@
 //   the telegram of a station clock with the record, stepped once
 //   the telegram that is written with second advance
 // The last three are asked of the record that was read, or of the given one where it does not read.
-use super::texts;
 use clock::{Clock, StepAnswer};
 use layouts::Layout;
 use record::season::UtcAnswer;
 use record::{DatedLayout, Record, RecordAnswer};
+use std::io;
+use std::io::Write;
 use telegram::write::{Choice, Setting, WriteAnswer};
 
 // A 6021 telegram without STX and ETX.
@@ -17,9 +18,8 @@ const BARE: usize = 16;
 // Its characters in front of LF and CR: a line has no room for these two.
 const SHOWN: usize = 14;
 
-fn put_refusal(out: &mut [u8], from: usize, number: u8) -> usize {
-    let at = texts::put(out, from, b'!');
-    texts::put_decimal(out, at, number as u64)
+fn put_refusal<W: Write>(line: &mut W, number: u8) -> io::Result<()> {
+    write!(line, "!{number}")
 }
 
 // The bare telegram that the fields spell. Writing would judge them, so they are laid by the row alone.
@@ -34,59 +34,52 @@ fn spelt(rec: Record) -> [u8; BARE] {
     bytes
 }
 
-fn put_utc(out: &mut [u8], from: usize, rec: Record) -> usize {
+fn put_utc<W: Write>(line: &mut W, rec: Record) -> io::Result<()> {
     match record::utc::utc_seconds(rec) {
-        UtcAnswer::Utc(seconds) => texts::put_decimal(out, from, seconds.0 as u64),
-        UtcAnswer::Refused(number) => put_refusal(out, from, number),
+        UtcAnswer::Utc(seconds) => write!(line, "{}", seconds.0),
+        UtcAnswer::Refused(number) => put_refusal(line, number),
     }
 }
 
-fn put_written(out: &mut [u8], from: usize, rec: Record, advance: bool) -> usize {
+fn put_written<W: Write>(line: &mut W, rec: Record, advance: bool) -> io::Result<()> {
     let setting = Setting {
         control: false,
         advance,
     };
     let mut bytes = [0u8; BARE];
     match telegram::write::write(rec, Choice::Named(setting), &mut bytes) {
-        WriteAnswer::Written(_) => texts::put_all(out, from, &bytes[0..SHOWN]),
-        WriteAnswer::Refused(number) => put_refusal(out, from, number),
+        WriteAnswer::Written(_) => line.write_all(&bytes[0..SHOWN]),
+        WriteAnswer::Refused(number) => put_refusal(line, number),
     }
 }
 
-fn put_stepped(out: &mut [u8], from: usize, rec: Record) -> usize {
-    let clock = Clock { rec };
-    let stepped = clock.step();
-    let answer = stepped.answer;
-    match answer {
-        StepAnswer::Stepped => {
-            let left = stepped.clock;
-            let next = left.rec;
-            put_written(out, from, next, false)
-        }
-        StepAnswer::Refused(number) => put_refusal(out, from, number),
+fn put_stepped<W: Write>(line: &mut W, rec: Record) -> io::Result<()> {
+    let stepped = Clock { rec }.step();
+    match stepped.answer {
+        StepAnswer::Stepped => put_written(line, stepped.clock.rec, false),
+        StepAnswer::Refused(number) => put_refusal(line, number),
     }
 }
 
-fn put_others(out: &mut [u8], from: usize, rec: Record) -> usize {
-    let read = texts::put(out, from, b':');
-    let utc = put_utc(out, read, rec);
-    let next = texts::put(out, utc, b':');
-    let stepped = put_stepped(out, next, rec);
-    let last = texts::put(out, stepped, b':');
-    put_written(out, last, rec, true)
+fn put_others<W: Write>(line: &mut W, rec: Record) -> io::Result<()> {
+    write!(line, ":")?;
+    put_utc(line, rec)?;
+    write!(line, ":")?;
+    put_stepped(line, rec)?;
+    write!(line, ":")?;
+    put_written(line, rec, true)
 }
 
-pub(crate) fn put_group(out: &mut [u8], from: usize, rec: Record) -> usize {
-    let start = texts::put(out, from, b' ');
-    let bytes = spelt(rec);
-    match telegram::read::read(&bytes, false) {
+pub(crate) fn put_group<W: Write>(line: &mut W, rec: Record) -> io::Result<()> {
+    write!(line, " ")?;
+    match telegram::read::read(&spelt(rec), false) {
         RecordAnswer::Good(good) => {
-            let at = texts::put(out, start, b'0');
-            put_others(out, at, good)
+            write!(line, "0")?;
+            put_others(line, good)
         }
         RecordAnswer::Refused(number) => {
-            let at = put_refusal(out, start, number);
-            put_others(out, at, rec)
+            put_refusal(line, number)?;
+            put_others(line, rec)
         }
     }
 }

@@ -6,9 +6,9 @@
 
 mod answers;
 mod records;
-mod texts;
 
-use libc::STDOUT_FILENO;
+use std::io;
+use std::io::{Cursor, Write};
 
 // The months of the calendar, counted from January 1980.
 const MONTHS: u16 = 1200;
@@ -16,52 +16,34 @@ const MONTHS: u16 = 1200;
 // No line is longer: a group has at most 43 bytes.
 const LINE: usize = 4200;
 
-// The groups of one day in one of the marks.
-fn put_times(out: &mut [u8], from: usize, day: records::Day, mark: u8) -> usize {
-    let mut at = from;
-    let mut time: u8 = 0;
-    while time < records::TIMES {
-        at = answers::put_group(out, at, records::made(day, mark, time));
-        time += 1;
+// The groups of one day in each of the marks.
+fn put_day<W: Write>(line: &mut W, day: records::Day) -> io::Result<()> {
+    for mark in 0..records::MARKS {
+        for time in 0..records::TIMES {
+            answers::put_group(line, records::made(day, mark, time))?;
+        }
     }
-    at
+    Ok(())
 }
 
-fn put_marks(out: &mut [u8], from: usize, day: records::Day) -> usize {
-    let mut at = from;
-    let mut mark: u8 = 0;
-    while mark < records::MARKS {
-        at = put_times(out, at, day, mark);
-        mark += 1;
-    }
-    at
-}
-
-fn put_line(out: &mut [u8], year: u16, month: u8) -> usize {
-    let named = texts::put_month(out, 0, year, month);
-    let first = put_marks(out, named, records::first_day(year, month));
-    let last = put_marks(out, first, records::last_day(year, month));
-    texts::put(out, last, b'\n')
-}
-
-fn print_first(out: &[u8], count: usize) {
-    if out.len() < count {
-        return;
-    }
-    io::write_all(STDOUT_FILENO, &out[0..count]);
+fn put_line<W: Write>(line: &mut W, year: u16, month: u8) -> io::Result<()> {
+    write!(line, "{year}-{month:02}")?;
+    put_day(line, records::first_day(year, month))?;
+    put_day(line, records::last_day(year, month))?;
+    writeln!(line)
 }
 
 // A line is written at once: a call for each answer would cost more than the answers.
-fn print_month(year: u16, month: u8) {
-    let mut out = [0u8; LINE];
-    let count = put_line(&mut out, year, month);
-    print_first(&out, count);
+fn print_month(rt: &impl Print, year: u16, month: u8) -> io::Result<()> {
+    let mut line = Cursor::new([0u8; LINE]);
+    put_line(&mut line, year, month)?;
+    let count = (line.position() as usize).min(LINE);
+    rt.write_all(&line.into_inner()[..count])
 }
 
-fn main() {
-    let mut index: u16 = 0;
-    while index < MONTHS {
-        print_month(1980 + index / 12, (index % 12 + 1) as u8);
-        index += 1;
+fn main(rt: HostRuntime) -> io::Result<()> {
+    for index in 0..MONTHS {
+        print_month(&rt, 1980 + index / 12, (index % 12 + 1) as u8)?;
     }
+    Ok(())
 }

@@ -4,7 +4,7 @@ use calendar::time::Time;
 use record::{DatedLayout, Reception, Record, Status};
 
 // A date and its weekday.
-#[derive(Drop)]
+#[derive(Clone, Copy)]
 pub(crate) struct Day {
     date: Date,
     weekday: u8,
