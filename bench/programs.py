@@ -11,12 +11,20 @@ TARGET = "x86_64-unknown-linux-gnu"
 IS_NATIVE = platform.machine() in ("x86_64", "AMD64")
 
 
-def run(*command):
+def run(*command, cwd=ROOT, stdin=None):
     """Runs a command, and shows what it said where it failed."""
-    done = subprocess.run(command, cwd=ROOT, capture_output=True)
+    done = subprocess.run(command, cwd=cwd, stdin=stdin, capture_output=True)
     if done.returncode != 0:
-        sys.exit(done.stdout.decode() + done.stderr.decode())
+        sys.exit(done.stdout.decode(errors="replace") + done.stderr.decode(errors="replace"))
     return done.stdout
+
+
+def proved(name):
+    """A proved program as it now stands: `rt run` proves and builds it, and runs it on the input of its folder."""
+    crate = ROOT / "crates" / name
+    with open(crate / "stdin", "rb") as given:
+        run("rt", "run", cwd=crate, stdin=given)
+    return crate / "out" / name
 
 
 class Programs:
@@ -24,11 +32,10 @@ class Programs:
 
     def __init__(self, folder):
         guide = pathlib.Path(run("rt", "doc").decode().strip())
-        self.kit = guide.parent.parent / "on" / platform.machine() / "toolchain"
+        self.kit = guide.parent / "toolchain"
         self.folder, self.library = pathlib.Path(folder), self.kit / "lib"
-        run("rt", "check", "measured", "dialspark")
-        self.measured = self.with_library(ROOT / "target" / "bin" / "measured")
-        self.dialspark = self.with_library(ROOT / "target" / "bin" / "dialspark")
+        self.measured = self.with_library(proved("measured"))
+        self.dialspark = self.with_library(proved("dialspark"))
         self.plain = [self.alone("plain")]
         self.searching = self.with_library(self.alone("searching", "-DMEMCHR"))
         self.tuned = self.with_library(self.hosted("tuned"))
@@ -60,8 +67,8 @@ class Programs:
         return self.linked(name, "-pie", *(self.library / part for part in before), made, *(self.library / part for part in behind))
 
     def printed(self, command, given):
-        """What a program prints for an input. On another processor it runs under the kit's emulator."""
-        emulator = [] if IS_NATIVE else [self.kit / "bin" / "qemu-x86_64"]
+        """What a program prints for an input. On another processor it runs under the emulator that counts."""
+        emulator = [] if IS_NATIVE else ["qemu-x86_64"]
         done = subprocess.run([*emulator, *command], input=given, capture_output=True)
         if done.returncode != 0 or done.stderr:
             sys.exit(f"{command[-1]}: exit status {done.returncode}, {done.stderr.decode(errors='replace')}")

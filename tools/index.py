@@ -1,5 +1,5 @@
 #!/usr/bin/env python3
-"""Fails where a page of docs/ names something that the tree does not have, or quotes lines that do not stand in their file.
+"""Fails where the README or a page of docs/ names something that the tree does not have, or quotes lines that do not stand in their file.
 
 docs/DOCUMENT-01.md and docs/DOCUMENT-02.md are tables that say of each sentence of a document by what it is rendered. The last column
 of each row names one thing or more, in backticks, and each must be there:
@@ -13,8 +13,8 @@ of each row names one thing or more, in backticks, and each must be there:
 
 In docs/DOCUMENT-02.md a row may be `not yet` in its place.
 
-Of the pages in PROSE each path in backticks that begins with a folder of the tree, each path of a function and each theorem as
-`File.name` must be there.
+Of the pages in PROSE each path in backticks that begins with a folder of the tree or with a crate, each path of a function and each
+theorem as `File.name` must be there; of a built program, crates/NAME/out/NAME, the crate that it is built of.
 
 On any page a block of lines that names a file behind its language, as ```rust crates/measured/src/main.rt, is a quotation: its
 lines stand in that file, one behind another, whatever their indentation. A line `..` in it stands for lines that are left out.
@@ -25,10 +25,11 @@ import sys
 import tree
 
 TABLES = ["DOCUMENT-01.md", "DOCUMENT-02.md"]
-PROSE = ["USE.md", "HOW-TO-CHANGE.md", "PROMISES.md", "DECISIONS.md"]
+PROSE = ["README.md", "docs/USE.md", "docs/HOW-TO-CHANGE.md", "docs/PROMISES.md", "docs/DECISIONS.md"]
 NOT_YET = "not yet"
 NAME = re.compile(r"`([^`]+)`")
 DECLARED = re.compile(r"^(?:pub(?:\([\w:]+\))? )?(?:struct|enum|const|static|type) (\w+)", re.M)
+BUILT = re.compile(r"crates/(\w+)/out/\1(?: .*)?")   # as one is named, or called with words
 QUOTED = re.compile(r"^```\w+ (\S+)\n(.*?)^```$", re.M | re.S)
 
 
@@ -57,8 +58,7 @@ class Names:
         for module, source in crate.modules.items():
             self.there.add(module)
             text = tree.without_comments(tree.text_of(source))
-            handed_on = [path.split("::")[-1] for path in tree.PASSED_ON.findall(text)]
-            self.there |= {f"{module}::{declared}" for declared in DECLARED.findall(text) + handed_on}
+            self.there |= {f"{module}::{declared}" for declared in DECLARED.findall(text) + tree.passed_on(text)}
 
     def has(self, name):
         if name in self.there:
@@ -98,17 +98,22 @@ def prose_faults(page, names):
     folders = {path.name for path in tree.ROOT.iterdir() if path.is_dir()} - {"target"}
     crates = set(tree.crates())
     items = {name.split("/")[-1] for name in names.there if "/specs/" in name or "/proofs/" in name}
-    for number, line in enumerate(without_blocks(tree.text_of(tree.ROOT / "docs" / page)).split("\n"), 1):
+    for number, line in enumerate(without_blocks(tree.text_of(tree.ROOT / page)).split("\n"), 1):
         for name in NAME.findall(line):
             gone = False
-            if re.fullmatch(r"[\w./-]+", name) and "/" in name and name.split("/")[0] in folders:
+            if built := BUILT.fullmatch(name):
+                gone = not (tree.ROOT / "crates" / built.group(1) / "src" / "main.rt").is_file()
+            elif re.fullmatch(r"[\w./-]+", name) and "/" in name and name.split("/")[0] in folders:
                 gone = not (tree.ROOT / name).exists() and not names.has(name)
+            elif re.fullmatch(r"[\w./-]+", name) and "/" in name and name.split("/")[0] in crates:
+                is_edit = names.has(name.replace("/", "/must-fail/", 1))
+                gone = not is_edit and not (tree.ROOT / "crates" / name).exists() and not names.has(name)
             elif re.fullmatch(r"\w+(::\w+)+", name) and name.split("::")[0] in crates:
                 gone = not names.has(name)
             elif re.fullmatch(r"[A-Z]\w*\.[^\s.]+", name) and not name.endswith((".antt", ".md")):
                 gone = name not in items
             if gone:
-                yield f"docs/{page}:{number} names {name}, which is not there"
+                yield f"{page}:{number} names {name}, which is not there"
 
 
 def stands_in(quoted, text):
@@ -128,16 +133,16 @@ def quotation_faults(page):
     for file, quoted in QUOTED.findall(tree.text_of(page)):
         source = tree.ROOT / file
         if not source.is_file():
-            yield f"docs/{page.name} quotes {file}, which is not there"
+            yield f"{page.relative_to(tree.ROOT)} quotes {file}, which is not there"
         elif not stands_in(quoted, tree.text_of(source)):
-            yield f"docs/{page.name} quotes lines that do not stand so in {file}: {quoted.strip().splitlines()[0]}"
+            yield f"{page.relative_to(tree.ROOT)} quotes lines that do not stand so in {file}: {quoted.strip().splitlines()[0]}"
 
 
 def main():
     names = Names()
     faults = [fault for page in TABLES for fault in table_faults(page, names)]
     faults += [fault for page in PROSE for fault in prose_faults(page, names)]
-    pages = sorted((tree.ROOT / "docs").glob("*.md"))
+    pages = [tree.ROOT / "README.md", *sorted((tree.ROOT / "docs").glob("*.md"))]
     faults += [fault for page in pages for fault in quotation_faults(page)]
     for fault in faults:
         print(fault)

@@ -7,15 +7,15 @@
 Public is what can be called from outside its crate. A `pub fn` of a private module, of a private type or of a program can not,
 and is a fault: it is to be `pub(crate)`.
 
-A public function has no `requires`. Each clause of its `ensures` is an equation whose sides differ. Together they speak of the
-result, if it has one, and of the exit of everything lent with `&mut`; a clause that speaks of neither is a fault.
+A public function has no `requires`. Each clause of its `ensures` is an equation whose sides differ; but of something lent whose type
+the function leaves open, as a writer's, a clause may be a fact: a definition of the tree, of what it held and what it holds. Together
+the equations speak of the result, if it has one, and the clauses of everything lent with `&mut` as it is at the return; a clause that
+speaks of neither is a fault.
 
-On the page a promise is the text of the `ensures`, by these rules and no others:
-  1. white space is one space;
-  2. `λ r.` and `⌜ ⌝` are left out;
-  3. `now (x .entry)` is `x`, and `now (x .exit)` is `x at exit`;
-  4. several clauses, and the factors of one that is a product `(a) × (b)`, stand one behind another, joined by `and`;
-  5. `|` is `\\|`, as a table asks.
+On the page a promise is the text of the `ensures`, word for word, by these rules and no others:
+  1. white space is one space, and the name of a clause is left out;
+  2. several clauses, and the factors of one that is a product `a × b`, stand one behind another, joined by `and`;
+  3. `|` is `\\|`, as a table asks.
 
 The page lists every public function by its path, as `calendar::date::day_number`, in a table whose first columns are `function`
 and `promise`. It may list others, whose promise must then be right too. The last column names must-fail edits in parentheses, as
@@ -31,77 +31,78 @@ import tree
 PAGE = tree.ROOT / "docs" / "PROMISES.md"
 PATH = re.compile(r"`(\w+(?:::\w+)+)`")
 NAMED = re.compile(r"\(((?:`[^`]+`(?:, | and | or )?)+)\)")
+LOOSER = re.compile(r"[→↔⊎¬λ]|\blet\b")   # what makes a term something else than facts, one beside another
 CELL = re.compile(r"(?<!\\)\|")
 
 
 def without_brackets(text):
-    """A term without the brackets that hold all of it."""
+    """A term without the brackets that hold all of it, and without those that make a fact a part of a starred clause."""
     text = text.strip()
-    while text.startswith("(") and tree.closing(text, 0) == len(text):
+    while text.startswith("(") and tree.closing(text, 0) == len(text) or text.startswith("⌜") and text.find("⌝") == len(text) - 1:
         text = text[1:-1].strip()
     return text
 
 
+def outside_brackets(text):
+    """A text with all that stands in brackets blanked, so that places stay."""
+    out, depth = [], 0
+    for here in text:
+        depth -= here in ")]}"
+        out.append(" " if depth else here)
+        depth += here in "([{"
+    return "".join(out)
+
+
 def factors(text):
-    """The factors of `(a) × (b)`, or the whole."""
+    """The factors of `a × b`, or the whole."""
     text = without_brackets(text)
-    parts, at = [], 0
-    while text.startswith("(", at):
-        end = tree.closing(text, at)
-        parts.append(text[at:end])
-        joined = re.compile(r" [×∗] ").match(text, end)
-        if end == len(text):
-            return [inner for part in parts for inner in factors(part)]
-        if not joined:
-            break
-        at = joined.end()
-    return [text]
+    bare = outside_brackets(text)
+    if LOOSER.search(bare):
+        return [text]
+    cuts = [found.span() for found in re.finditer(r" [×∗] ", bare)]
+    parts = [text[start:end] for start, end in zip([0, *(end for _, end in cuts)], [*(start for start, _ in cuts), len(text)])]
+    return [text] if len(parts) == 1 else [inner for part in parts for inner in factors(part)]
 
 
 def clauses_of(function):
-    """A function's promise, clause by clause: the name of the result, and the text with `.entry` and `.exit` still in it."""
+    """A function's promise, clause by clause."""
     for text in function.ensures():
-        text = re.sub(r"\s+", " ", text).strip()
-        bound = re.match(r"λ ((?:[^\s.]+ )*[^\s.]+)\. ?", text)
-        result = bound.group(1).split()[-1] if bound else "_"
-        body = re.sub(r" ?[⌜⌝] ?", " ", text[bound.end():] if bound else text).strip()
-        for clause in factors(re.sub(r"\s+", " ", body)):
-            yield result, clause
+        yield from factors(re.sub(r"\s+", " ", text).strip())
 
 
 def on_the_page(clause):
-    clause = re.sub(r"\(now \(«?(\w+)»? \.entry\)\)", r"\1", clause)
-    clause = re.sub(r"now \(«?(\w+)»? \.entry\)", r"\1", clause)
-    clause = re.sub(r"now \(«?(\w+)»? \.exit\)", r"\1 at exit", clause)
     return clause.replace("|", "\\|")
 
 
 def promise_of(function):
     """What the page has to say."""
-    return " and ".join(f"`{on_the_page(clause)}`" for _, clause in clauses_of(function))
+    return " and ".join(f"`{on_the_page(clause)}`" for clause in clauses_of(function))
 
 
 def sides_of(clause):
     """The sides of an equation, or nothing."""
-    parts, depth, start = [], 0, 0
-    for at, here in enumerate(clause):
-        depth += (here in "([{") - (here in ")]}")
-        if here == "≡" and depth == 0:
-            parts.append(without_brackets(clause[start:at]))
-            start = at + 1
-    parts.append(without_brackets(clause[start:]))
-    return parts if len(parts) == 2 and all(parts) else None
+    bare = outside_brackets(clause)
+    if LOOSER.search(bare) or bare.count("≡") != 1:
+        return None
+    at = bare.index("≡")
+    sides = [without_brackets(clause[:at]), without_brackets(clause[at + 1:])]
+    return sides if all(sides) else None
 
 
-def words_of(clause):
-    return set(re.split(r"[\s(),{};]+", clause))
+def speaks_of_the_result(clause):
+    return re.search(r"(?<![\w.«])result(?![\w'»])", clause) is not None
 
 
 def is_at_exit(name, clause):
-    return re.search(rf"«?\b{name}\b»? \.exit\b", clause) is not None
+    return re.search(rf"(?<![\w.])«?\b{name}\b»?\.new\b", clause) is not None
 
 
-def promise_faults(function):
+def is_fact(clause, definitions):
+    """Whether a clause says a definition of the tree of some things."""
+    return clause.split(" ")[0].split("(")[0] in definitions
+
+
+def promise_faults(function, definitions):
     """What is not whole in a public function's promise."""
     if function.requires():
         yield "has a requires"
@@ -109,18 +110,21 @@ def promise_faults(function):
     if not clauses:
         yield "has no ensures"
         return
-    for result, clause in clauses:
+    equations = []
+    for clause in clauses:
         sides = sides_of(clause)
-        if sides is None:
+        if sides is not None:
+            equations.append(clause)
+            if sides[0] == sides[1]:
+                yield f"promises that a thing is itself: {clause}"
+        elif not (any(is_at_exit(name, clause) for name in function.lent_of_any_type()) and is_fact(clause, definitions)):
             yield f"promises no equation: {clause}"
-        elif sides[0] == sides[1]:
-            yield f"promises that a thing is itself: {clause}"
-        if result not in words_of(clause) and not any(is_at_exit(name, clause) for name in function.lent()):
+        if not speaks_of_the_result(clause) and not any(is_at_exit(name, clause) for name in function.lent()):
             yield f"has a clause that speaks neither of the result nor of what is lent: {clause}"
-    if function.result and not any(result in words_of(clause) for result, clause in clauses):
+    if function.result and not any(map(speaks_of_the_result, equations)):
         yield "promises nothing of its result"
     for name in function.lent():
-        if not any(is_at_exit(name, clause) for _, clause in clauses):
+        if not any(is_at_exit(name, clause) for clause in clauses if clause in equations or name in function.lent_of_any_type()):
             yield f"promises nothing of {name} at exit"
 
 
@@ -182,6 +186,11 @@ def names_known(known):
     return names
 
 
+def definitions_of(known):
+    """The names of the definitions of the tree."""
+    return {name for crate in known for path in tree.antt_files(crate, "specs") for name in tree.items_in(tree.text_of(path))}
+
+
 def page_faults(lines, rows, public, functions, known):
     """Where the page and the tree differ."""
     listed = {row.path for row in rows}
@@ -219,7 +228,7 @@ def written(text, functions):
 
 def main():
     known = tree.crates()
-    faults, public, functions = [], {}, {}
+    faults, public, functions, definitions = [], {}, {}, definitions_of(known)
     for crate in (tree.Crate(name) for name in known):
         for function in crate.functions:
             functions[function.path] = function
@@ -228,7 +237,7 @@ def main():
                 faults.append(f"{where} cannot be called from outside its crate: make it pub(crate)")
             elif function.is_pub:
                 public[function.path] = function
-                faults += [f"{where} {fault}" for fault in promise_faults(function)]
+                faults += [f"{where} {fault}" for fault in promise_faults(function, definitions)]
     if sys.argv[1:] == ["--write"]:
         PAGE.write_text(written(tree.text_of(PAGE), functions), encoding="utf-8")
     elif sys.argv[1:]:

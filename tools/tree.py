@@ -7,14 +7,17 @@ import re
 
 ROOT = pathlib.Path(__file__).resolve().parent.parent
 
-FUNCTION = re.compile(r"^[ \t]*(pub(?:\([\w:]+\))? )?(?:unsafe )?(?:extern \"C\" )?fn (\w+)", re.M)
-IMPL = re.compile(r"^impl(?:<[^>]*>)? (\w+)", re.M)
+FUNCTION = re.compile(r"^[ \t]*(pub(?:\([\w:]+\))? )?(?:const )?(?:unsafe )?(?:extern \"C\" )?fn (\w+)", re.M)
+IMPL = re.compile(r"^impl\b", re.M)
 TYPE = re.compile(r"^(pub(?:\([\w:]+\))? )?(?:struct|enum) (\w+)", re.M)
 MODULE = re.compile(r"^(pub(?:\([\w:]+\))? )?mod (\w+);", re.M)
-PASSED_ON = re.compile(r"^pub use ([\w:]+);", re.M)
+PASSED_ON = re.compile(r"^pub use ([\w:]+(?:::\{[^{};]*\})?(?: as \w+)?);", re.M)
 ITEM = re.compile(r"^(?:(?:abbrev|unfoldable|opaque|private) )*(pub )?(?:(?:abbrev|unfoldable|opaque) )*(record |data )?([^\s:(){}]+)")
+OF_A_FUNCTION = {"Answers.antt", "Invariants.antt", "Proof.antt"}
 NO_ITEM = {"use", "mod", "module", "open", "infix", "infixl", "infixr", "syntax", "package"}
-CLAUSE = re.compile(r"\s*(ghost|requires|ensures|decreases)\b\s*([\w-]*)\s*\{")
+CLAUSE = re.compile(r"\s*(ghost|requires|ensures|decreases)\b\*?\s*(?:[\w-]+:?)?\s*\{")
+APART = re.compile(r"//[^\n]*|\br(#*)\".*?\"\1|\"(?:\\.|[^\"\\])*\"|'(?:\\.[^'\n]*|[^'\\\n])'", re.S)
+RESULT = re.compile(r"\s*(?:->\s*((?:(?!\s(?:ghost|requires|ensures|decreases|where)\b)[^{])+))?(?:\s*where\b(?:(?!\s(?:ghost|requires|ensures|decreases)\b)[^{])*)?")
 
 
 def text_of(path):
@@ -23,17 +26,38 @@ def text_of(path):
 
 def crates(root=ROOT):
     """The names of the listed crates, in the order of the list."""
-    return [line.split(":")[0].strip() for line in text_of(root / "crates.txt").split("\n") if ":" in line and not line.startswith("#")]
+    return [line.split(":")[0].split()[0] for line in text_of(root / "crates.txt").split("\n") if ":" in line and not line.startswith("#")]
 
 
-def rules_of(crate):
-    """The name of the crate that says what is right of what a crate does."""
+def rules_of(crate, root=ROOT):
+    """The name of the crate that says what is right of what a crate does: NAME_rules of NAME, or of a crate that stands on it and
+    has a word more in front, as a library may not be named like one of the toolchain's."""
+    for line in text_of(root / "crates.txt").split("\n"):
+        name, _, below = line.partition(":")
+        for rules in below.split() if name.split()[:1] == [crate] else []:
+            if rules.endswith("_rules") and f"_{crate}".endswith("_" + rules.removesuffix("_rules")):
+                return rules
     return f"{crate}_rules"
+
+
+def blank(found):
+    return re.sub(r"[^\n]", " ", found.group())
 
 
 def without_comments(text):
     """A source's text with its `//` comments blanked, so that places stay."""
-    return re.sub(r"//[^\n]*", lambda found: " " * len(found.group()), text)
+    return APART.sub(lambda found: blank(found) if found.group().startswith("//") else found.group(), text)
+
+
+def without_literals(text):
+    """The same with its texts and characters blanked too, so that a bracket in one closes nothing."""
+    return APART.sub(blank, text)
+
+
+def passed_on(text):
+    """The names that a source hands on by `pub use`, one or several to a line."""
+    return [part.split(" as ")[-1].split("::")[-1].strip()
+            for path in PASSED_ON.findall(text) for part in re.sub(r".*\{|\}", "", path, flags=re.S).split(",") if part.strip()]
 
 
 def closing(text, at):
@@ -51,12 +75,30 @@ def closing(text, at):
     return len(text)
 
 
-class Function:
-    """A function of a source file: its path, whether it is `pub`, its parameters, its result and its clauses."""
+def behind_generics(text, at):
+    """The place behind the `<..>` that stands at a place, or that place where there is none."""
+    if not text.startswith("<", at):
+        return at
+    depth = 0
+    for place in range(at, len(text)):
+        if text[place] == "<":
+            depth += 1
+        elif text[place] == ">" and text[place - 1] != "-":
+            depth -= 1
+            if not depth:
+                return place + 1
+    return len(text)
 
-    def __init__(self, source, line, module, holder, name, is_pub, parameters, result, clauses):
+
+class Function:
+    """A function of a source file: its path, whether it is `pub`, its parameters, its result and its clauses.
+
+    A contract may have several clauses of a kind, each with a name; of a clause its word and its text are kept, and not its name.
+    """
+
+    def __init__(self, source, line, module, holder, name, is_pub, generics, parameters, result, clauses):
         self.source, self.line, self.module, self.holder, self.name = source, line, module, holder, name
-        self.is_pub, self.parameters, self.result, self.clauses = is_pub, parameters, result, clauses
+        self.is_pub, self.generics, self.parameters, self.result, self.clauses = is_pub, generics, parameters, result, clauses
         self.path = "::".join([module] + ([holder] if holder else []) + [name])
         self.crate = module.split("::")[0]
 
@@ -70,30 +112,52 @@ class Function:
         """The names of the parameters behind `&mut`."""
         return re.findall(r"(\w+)\s*:\s*&(?:'\w+ )?mut\b", self.parameters) + re.findall(r"&(?:'\w+ )?mut (self)\b", self.parameters)
 
+    def lent_of_any_type(self):
+        """Those of them whose type is a parameter of the function, as a writer's."""
+        types = re.findall(r"(?:^|,)\s*(\w+)\s*(?::|,|$)", self.generics)
+        found = re.findall(r"(\w+)\s*:\s*&(?:'\w+ )?mut (impl\b|\w+)", self.parameters)
+        return [name for name, kind in found if kind == "impl" or kind in types]
 
-def clauses_behind(text, at):
-    """The clauses that stand at a place, each as its word and what is between its braces, up to the body."""
+
+def clauses_behind(text, bare, at, where):
+    """The clauses that stand at a place, each as its word and what is between its braces, up to the body. Anything else ends the run."""
     clauses = []
     while True:
-        found = CLAUSE.match(text, at)
+        found = CLAUSE.match(bare, at)
         if not found:
+            if not re.compile(r"\s*[{;]").match(bare, at):
+                raise SystemExit(f"{where}: what stands in front of the body is no clause: {text[at:at + 60].strip()}")
             return clauses
-        end = closing(text, found.end() - 1)
+        end = closing(bare, found.end() - 1)
         clauses.append((found.group(1), text[found.end():end - 1]))
         at = end
 
 
-def functions_of(source, module):
-    """Every function of a source file."""
-    text = without_comments(text_of(source))
-    holders = [(found.start(), closing(text, text.index("{", found.end())), found.group(1)) for found in IMPL.finditer(text)]
-    for found in FUNCTION.finditer(text):
-        start = text.index("(", found.end())
-        end = closing(text, start)
-        behind = re.compile(r"\s*(?:->\s*((?:(?!\s(?:ghost|requires|ensures|decreases)\b)[^{])+))?").match(text, end)
-        holder = next((name for begin, over, name in holders if begin < found.start() < over), None)
-        yield Function(source, text.count("\n", 0, found.start()) + 1, module, holder, found.group(2), found.group(1) == "pub ",
-                       text[start + 1:end - 1], (behind.group(1) or "").strip(), clauses_behind(text, behind.end()))
+def holders_in(text):
+    """Where each `impl` block begins and ends, the type that it is about, and whether it is one of a trait."""
+    for found in IMPL.finditer(text):
+        opening = text.index("{", found.end())
+        head = text[behind_generics(text, found.end()):opening]
+        of_trait = re.match(r".*?\sfor\s", head, re.S)
+        name = re.match(r"\s*&?(?:\w+::)*(\w+)", head[of_trait.end():] if of_trait else head)
+        if name:
+            yield found.start(), closing(text, opening), name.group(1), bool(of_trait)
+
+
+def functions_of(source, module, open_types=()):
+    """Every function of a source file. A method of a trait is as public as its type, one of these or not."""
+    text, bare = without_comments(text_of(source)), without_literals(text_of(source))
+    holders = list(holders_in(bare))
+    for found in FUNCTION.finditer(bare):
+        start = behind_generics(bare, found.end())
+        generics, start = text[found.end() + 1:start - 1], bare.index("(", start)
+        end = closing(bare, start)
+        behind = RESULT.match(bare, end)
+        holder, of_trait = next(((name, of_trait) for begin, over, name, of_trait in holders if begin < found.start() < over), (None, False))
+        is_pub = found.group(1) == "pub " or of_trait and f"{module}::{holder}" in open_types
+        line = bare.count("\n", 0, found.start()) + 1
+        yield Function(source, line, module, holder, found.group(2), is_pub, generics, text[start + 1:end - 1],
+                       (behind.group(1) or "").strip(), clauses_behind(text, bare, behind.end(), f"{source}:{line}"))
 
 
 class Crate:
@@ -107,14 +171,15 @@ class Crate:
             self.visit(library, self.folder / "src", name, True)
         elif program.exists():
             self.visit(program, self.folder / "src", name, False)
-        self.functions = [function for module, source in self.modules.items() for function in functions_of(source, module)]
+        self.functions = [function for module, source in self.modules.items()
+                          for function in functions_of(source, module, self.types if module in self.open else ())]
 
     def visit(self, source, below, module, is_open):
         text = without_comments(text_of(source))
         self.modules[module] = source
         if is_open:
             self.open.add(module)
-            self.passed_on |= {path.replace("crate::", "").split("::")[-1] for path in PASSED_ON.findall(text)}
+            self.passed_on |= set(passed_on(text))
         self.types |= {f"{module}::{name}" for visible, name in TYPE.findall(text) if visible == "pub "}
         for visible, name in MODULE.findall(text):
             inner = below / f"{name}.rt"
@@ -213,6 +278,11 @@ def items_in(text):
 def antt_files(crate, part, root=ROOT):
     """The antt files of a crate's specs/ or proofs/ folder, without the lists of modules."""
     return sorted(path for path in (root / "crates" / crate / part).rglob("*.antt") if path.name != "Lib.antt")
+
+
+def is_of_a_function(path):
+    """Whether a file of proofs/ is a part of a single function's proof: they lie in a folder of its name."""
+    return path.parent.name != "proofs" and path.name in OF_A_FUNCTION
 
 
 def edits(crate, root=ROOT):
