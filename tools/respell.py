@@ -1,21 +1,23 @@
 #!/usr/bin/env python3
 """Brings this repository's own names to the spelling of today's Rattle: words in snake case, types in camel case.
 
-  python3 -B tools/respell.py        at the top, once, on the tree that the kit's port.py leaves
+  python3 -B tools/respell.py        at the top, once, on the tree that the kit's port.py leaves; then rt fmt in each crate
 
 It turns the names of definitions, constructors, fields, laws and their variables in crates/*/specs, crates/*/proofs and the
 clauses of crates/*/src, and what the edits in crates/*/must-fail say of them. Names of the kit's libraries, of functions and of
-what the kit generates keep their spelling. It says where two names of one file would fall together.
+what the kit generates keep their spelling, and so do texts. It says where two names of one file would fall together.
 """
 import os
 import re
-import sys
 
-NAME = re.compile(r"(?<![\w'₀-₉-])[^\W\d][\w'₀-₉-]*")
+WORD = r"[^\W\d][\w'₀-₉-]*"
+NAME = re.compile(rf"(?<![\w'₀-₉-]){WORD}")
 TEXT = re.compile(r'"[^"]*"')
 CAMEL = re.compile(r"[a-z][a-z0-9_]*[A-Z]")
 ALIAS = re.compile(r"\s*(?:pub )?use (Rattle\.[\w.]+) as ([\w-]+)\s*$")
 USE = re.compile(r"\s*(?:pub )?(?:ghost )?use ([\w.]+)\.\{(.*)\}")
+# Modules that the kit makes of each function, and not this repository.
+MADE = ("Statement", "Tie", "Goals", "Given", "Lts")
 
 # A law that is named as the definition that it is about: `_law` behind it keeps the two apart.
 LAWS = set(
@@ -44,173 +46,142 @@ def respelled(name):
         return name.replace("-", "_") + "_law"
     if name[0].isupper():
         return "".join(part[:1].upper() + part[1:] for part in name.split("-"))
-    name = re.sub(r"(?<=[A-Z])(?=[A-Z][a-z])|(?<=[a-z0-9'])(?=[A-Z])", "_", name.replace("-", "_"))
-    return name.lower() if not name.startswith("_") else name
+    return re.sub(r"(?<=[A-Z])(?=[A-Z][a-z])|(?<=[a-z0-9'])(?=[A-Z])", "_", name.replace("-", "_")).lower()
 
 
-def is_own(path, crates):
-    parts = path.split(".")
-    return len(parts) > 2 and parts[0] == "Rattle" and parts[1] in crates and (parts[2] == "specs" and "declared" not in parts or parts[2] == "proofs" and parts[-1] not in ("Statement", "Tie", "Goals", "Given", "Lts"))
+class File:
+    """What one file brings in: names of the kit's libraries, the repository's own names, and its own modules under another name."""
+
+    def __init__(self, text, crates, fields, is_rust):
+        self.crates, self.fields, self.is_rust = crates, fields, is_rust
+        self.library, self.own, self.modules = set(), set(), set()
+        for line in text.split("\n"):
+            alias, use = ALIAS.match(line), USE.match(line)
+            if alias and self.is_own(alias.group(1)):
+                self.modules.add(alias.group(2))
+            if use:
+                names = {name.strip().split(" as ")[-1].strip() for name in use.group(2).split(",")}
+                (self.own if self.is_own(use.group(1)) else self.library).update(names)
+
+    def is_own(self, path):
+        parts = path.split(".")
+        if len(parts) < 3 or parts[0] != "Rattle" or parts[1] not in self.crates:
+            return False
+        return parts[2] == "specs" and "declared" not in parts or parts[2] == "proofs" and parts[-1] not in MADE
+
+    def has_old_spelling(self, name):
+        return CAMEL.match(name) or not self.is_rust and "-" in name
+
+    def keeps(self, name, before):
+        """Whether a name keeps its spelling behind this part of its line."""
+        if not self.has_old_spelling(name) or name in self.library:
+            return True
+        if self.is_rust and name not in self.own | self.fields:
+            return True
+        is_member = before.endswith(".") and not any(re.search(rf"(?<![\w.-]){re.escape(module)}\.$", before) for module in self.modules)
+        return is_member and name not in self.fields
+
+    def turn(self, text, keeps):
+        """A text with its names respelled, but for those in texts and those that `keeps` says."""
+        texts = [found.span() for found in TEXT.finditer(text)]
+
+        def one(found):
+            is_text = any(start < found.start() < end for start, end in texts)
+            return found.group() if is_text or keeps(found.group(), text[: found.start()]) else respelled(found.group())
+
+        return NAME.sub(one, text)
+
+    def code(self, line):
+        use = USE.match(line)
+        if not use:
+            return self.turn(line, self.keeps)
+        if not self.is_own(use.group(1)):
+            return line
+        at = line.index("{")
+        return line[:at] + self.turn(line[at:], lambda name, before: not self.has_old_spelling(name))
+
+    def line(self, line):
+        if self.is_rust or not re.match(r"\s*--", line):
+            return self.code(line)
+        return self.turn(line, lambda name, before: not CAMEL.match(name) or name in self.library)
 
 
-def turned(name, rust):
-    return CAMEL.match(name) if rust else "-" in name or CAMEL.match(name)
-
-
-def file_map(text, crates, fields, rust):
-    """The names of one file that are respelled, and those of its names that a library has."""
-    libraries, own = set(), set()
-    for line in text.split("\n"):
-        m = ALIAS.match(line)
-        if m and is_own(m.group(1), crates):
-            own.add(m.group(2) + ".")
-        m = USE.match(line)
-        if m:
-            names = [n.strip().split(" as ")[-1].strip() for n in m.group(2).split(",")]
-            (own if is_own(m.group(1), crates) else libraries).update(names)
-    return libraries, own
-
-
-def turn_line(line, libraries, only, fields, modules):
-    texts = [(m.start(), m.end()) for m in TEXT.finditer(line)]
-
-    def one(m):
-        name = m.group(0)
-        if any(start < m.start() < end for start, end in texts):
-            return name
-        if not turned(name, only is not None):
-            return name
-        before = line[: m.start()]
-        if before.endswith(".") and name not in fields and not USE.match(line) and not any(re.search(rf"(?<![\w.-]){re.escape(m)}$", before) for m in modules):
-            return name
-        if before.endswith(".") and USE.match(line):
-            return name
-        if name in libraries or only is not None and name not in only:
-            return name
-        return respelled(name)
-
-    return NAME.sub(one, line)
-
-
-def turn_antt(text, crates, fields):
-    libraries, own = file_map(text, crates, fields, False)
-    out = []
-    for line in text.split("\n"):
-        m = USE.match(line)
-        if m and not is_own(m.group(1), crates):
-            out.append(line)
-            continue
-        if m:
-            head, names = line[: line.index("{")], line[line.index("{"):]
-            out.append(head + NAME.sub(lambda n: respelled(n.group(0)) if turned(n.group(0), False) else n.group(0), names))
-            continue
-        code, mark, said = line.partition("--") if re.match(r"\s*--", line) else (line, "", "")
-        code = turn_line(code, libraries, None, fields, {n for n in own if n.endswith(".")})
-        quoted = [(n.start(), n.end()) for n in TEXT.finditer(said)]
-        said = NAME.sub(lambda n: respelled(n.group(0)) if CAMEL.match(n.group(0)) and n.group(0) not in libraries and not any(a < n.start() < b for a, b in quoted) else n.group(0), said)
-        out.append(code + mark + said)
-    return "\n".join(out)
-
-
-def turn_rust(text, crates, fields):
-    libraries, own = file_map(text, crates, fields, True)
-    own |= fields
-    return "\n".join(turn_line(line, libraries, own, fields, set()) for line in text.split("\n"))
-
-
-# What port.py does to the text of a file, as far as the edits' lines have it.
-def ported_line(text, is_rust):
+def ported(text, is_rust):
+    """What port.py makes of a line, as far as the edits have it."""
     text = re.sub(r"(?<=[\w)'»]) \.(?=[\w«])", ".", text)
-    text = re.sub(r"\(([\w'-]+(?:\.[\w«»]+)+)\)", r"\1", text.replace("«data_bits»", "data_bits").replace("«stop_bits»", "stop_bits"))
-    text = text.replace("⌜ ", "").replace(" ⌝", "") if is_rust else text
-    return text
+    text = text.replace("«data_bits»", "data_bits").replace("«stop_bits»", "stop_bits")
+    text = re.sub(r"\(([\w'-]+(?:\.[\w«»]+)+)\)", r"\1", text)
+    return text.replace("⌜ ", "").replace(" ⌝", "") if is_rust else text
 
 
-def turn_edit(path, root, crates, fields):
+def edit_turned(path, files, everywhere):
+    """An edit, each line of it by the file that it is for; in a source, by the names that any source brings in."""
     crate = path.split(os.sep + "must-fail" + os.sep)[0]
-    lines = open(path, encoding="utf-8").read().split("\n")
-    target, out, libraries, own = None, [], set(), set()
-    for line in lines:
-        m = re.match(r"file: (\S+)", line)
-        if m:
-            target = os.path.join(crate, m.group(1))
-            if os.path.exists(target):
-                text = open(target, encoding="utf-8").read()
-                libraries, own = file_map(text, crates, fields, target.endswith(".rt"))
-        m = re.match(r"(old: |new: )(.*)", line)
-        if m and target:
-            rust = target.endswith(".rt")
-            body = ported_line(m.group(2), rust)
-            use = USE.match(body)
-            if use and is_own(use.group(1), crates) or not use:
-                if use:
-                    head, names = body[: body.index("{")], body[body.index("{"):]
-                    body = head + NAME.sub(lambda n: respelled(n.group(0)) if turned(n.group(0), rust) else n.group(0), names)
-                else:
-                    body = turn_line(body, libraries, (own | fields | everywhere) if rust else None, fields, {n for n in own if n.endswith(".")})
-            line = m.group(1) + body
+    file, out = None, []
+    for line in open(path, encoding="utf-8").read().split("\n"):
+        named = re.match(r"file: (\S+)", line)
+        if named:
+            file = files.get(os.path.join(crate, named.group(1)))
+        text = re.match(r"(old: |new: )(.*)", line)
+        if text and file:
+            own = file.own
+            file.own = own | everywhere if file.is_rust else own
+            line = text.group(1) + file.code(ported(text.group(2), file.is_rust))
+            file.own = own
         out.append(line)
     return "\n".join(out)
 
 
-everywhere = set()
-
-
-def own_fields(texts):
-    """The fields of records that this repository's .antt files declare."""
-    found = set()
-    for text in texts:
-        inside = False
-        for line in text.split("\n"):
-            if re.match(r"\s*(pub )?record .* where\s*$|\s*(pub )?record .* where$", line):
-                inside = True
-                continue
-            if inside:
-                m = re.match(r"\s+(?:pub )?([^\W\d][\w'₀-₉-]*)\s*:", line)
-                if m:
-                    found.add(m.group(1))
-                elif line.strip() and not line.startswith(" "):
-                    inside = False
-        for m in re.finditer(r"record \{([^{}]*)\}", text):
-            for f in re.finditer(r"(?:^|;)\s*([^\W\d][\w'₀-₉-]*)\s*:", m.group(1)):
-                found.add(f.group(1))
-        for m in re.finditer(r"\(\(?\s*([^\W\d][\w'₀-₉-]*) : ", text):
-            pass
+def fields_of(text):
+    """The fields of the records that an .antt file declares."""
+    found, is_inside = set(), False
+    for line in text.split("\n"):
+        field = re.match(rf"\s+(?:pub )?({WORD})\s*:", line)
+        if re.match(r"\s*(pub )?record .* where\s*$", line):
+            is_inside = True
+        elif is_inside and field:
+            found.add(field.group(1))
+        elif is_inside and line.strip() and not line.startswith(" "):
+            is_inside = False
+    for record in re.findall(r"record \{([^{}]*)\}", text):
+        found.update(re.findall(rf"(?:^|;)\s*({WORD})\s*:", record))
     return found
 
 
+def text_turned(path, text, file):
+    for law, paths in LAWS_OF_FILES.items():
+        if any(path.endswith(one) for one in paths):
+            text = re.sub(rf"(?<![\w.-]){law}(?![\w'-])", law + "_law", text)
+    return "\n".join(file.line(line) for line in text.split("\n"))
+
+
+def tell_names_together(path, before, after):
+    together = {}
+    for old, new in zip(NAME.findall(before), NAME.findall(after)):
+        together.setdefault(new, set()).add(old)
+    for new, olds in together.items():
+        if len(olds) > 1:
+            print(f"{path}: {sorted(olds)} are {new} now")
+
+
 def main():
-    root = os.getcwd()
-    crates = set(os.listdir(os.path.join(root, "crates")))
+    crates = set(os.listdir("crates"))
     paths = []
-    for folder, inner, names in os.walk(os.path.join(root, "crates")):
-        inner[:] = sorted(d for d in inner if d != "out")
-        paths += [os.path.join(folder, n) for n in sorted(names)]
-    antt = [p for p in paths if p.endswith(".antt")]
-    rust = [p for p in paths if p.endswith(".rt")]
-    edits = [p for p in paths if p.endswith(".edit")]
-    texts = {p: open(p, encoding="utf-8").read() for p in antt + rust}
-    fields = own_fields(texts[p] for p in antt)
-    for p in rust:
-        everywhere.update(file_map(texts[p], crates, fields, True)[1])
-    for p in edits:
-        text = turn_edit(p, root, crates, fields)
-        open(p, "w", encoding="utf-8").write(text)
-    for p in antt + rust:
-        before = texts[p]
-        after = before
-        for law, files in LAWS_OF_FILES.items():
-            if any(p.endswith(f) for f in files):
-                after = re.sub(rf"(?<![\w.-]){law}(?![\w'-])", law + "_law", after)
-        after = turn_antt(after, crates, fields) if p.endswith(".antt") else turn_rust(after, crates, fields)
-        a, b = {}, {}
-        for x, y in zip(NAME.findall(before), NAME.findall(after)):
-            a.setdefault(y, set()).add(x)
-        for y, xs in a.items():
-            if len(xs) > 1:
-                print(f"{os.path.relpath(p, root)}: {sorted(xs)} are {y} now")
-        if after != before:
-            open(p, "w", encoding="utf-8").write(after)
+    for folder, inner, names in os.walk("crates"):
+        inner[:] = sorted(name for name in inner if name != "out")
+        paths += [os.path.join(folder, name) for name in sorted(names)]
+    texts = {path: open(path, encoding="utf-8").read() for path in paths if path.endswith((".antt", ".rt"))}
+    fields = set().union(*(fields_of(text) for path, text in texts.items() if path.endswith(".antt")))
+    files = {path: File(text, crates, fields, path.endswith(".rt")) for path, text in texts.items()}
+    everywhere = set().union(*(file.own for file in files.values() if file.is_rust))
+    for path in paths:
+        if path.endswith(".edit"):
+            turned = edit_turned(path, files, everywhere)
+            open(path, "w", encoding="utf-8").write(turned)
+    for path, text in texts.items():
+        turned = text_turned(path, text, files[path])
+        tell_names_together(path, text, turned)
+        open(path, "w", encoding="utf-8").write(turned)
 
 
 if __name__ == "__main__":
