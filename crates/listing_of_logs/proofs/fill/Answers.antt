@@ -62,7 +62,7 @@ overflow_add-used c =
     let l = c.loop-at in
     let row = c.lay_row in
     let next =
-    one_more a.number a.block.now l.page _ l.at l.used l.invariant (omega arith) c.loop-at-test.true
+    one_more a.number a.block.now l.page _ l.at l.used l.invariant (omega arith) (omega arith)
     _ (slot_at a.block.now l.at) (row_answer row.result) row.new.out row.ensures _ (ap row_answer c.in-Written.is) in
     omega (arith, next.few, next.inside, next.fits)
 
@@ -77,7 +77,7 @@ loop-at-preserved c =
     let a = c.args in
     let l = c.loop-at in
     let row = c.lay_row in
-    one_more a.number a.block.now l.page _ l.at l.used l.invariant (omega arith) c.loop-at-test.true
+    one_more a.number a.block.now l.page _ l.at l.used l.invariant (omega arith) (omega arith)
     _ (slot_at a.block.now l.at) (row_answer row.result) row.new.out row.ensures _ (ap row_answer c.in-Written.is)
 
 pub shape_of-page-in-Refused : goal.shape_of-page-in-Refused
@@ -86,7 +86,7 @@ shape_of-page-in-Refused c =
     let l = c.loop-at in
     let row = c.lay_row in
     absurd
-    (not_refused a.number a.block.now l.page _ l.at l.used l.invariant (omega arith) c.loop-at-test.true
+    (not_refused a.number a.block.now l.page _ l.at l.used l.invariant (omega arith) (omega arith)
     _ (slot_at a.block.now l.at) (row_answer row.result) row.new.out row.ensures _ (ap row_answer c.in-Refused.is))
 
 pub returns-in-Refused : goal.returns-in-Refused
@@ -95,7 +95,7 @@ returns-in-Refused c =
     let l = c.loop-at in
     let row = c.lay_row in
     absurd
-    (not_refused a.number a.block.now l.page _ l.at l.used l.invariant (omega arith) c.loop-at-test.true
+    (not_refused a.number a.block.now l.page _ l.at l.used l.invariant (omega arith) (omega arith)
     _ (slot_at a.block.now l.at) (row_answer row.result) row.new.out row.ensures _ (ap row_answer c.in-Refused.is))
 
 pub shape_of-page : goal.shape_of-page

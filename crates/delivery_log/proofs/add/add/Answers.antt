@@ -1,4 +1,4 @@
--- `log::add::add` meets its contract.
+-- `delivery_log::add::add` meets its contract.
 use mathlib.Core.Path.{◌≡◌, ap, ap₂, sym, ◌∙◌}
 use mathlib.Core.Bool.{true}
 use Rattle.record_rules.specs.Answers.{record_answer}
@@ -8,10 +8,7 @@ use Rattle.delivery_log.proofs.add.add.Goals as goal
 
 pub add_good-requires : goal.add_good-requires
 unfolding reads_well
-add_good-requires c =
-    let reads : reads_well c.args.telegram.now ≡ true =
-    sym (ap is_done c.read.ensures) ∙ ap (λ r. is_done (record_answer r)) c.in-Good.is in
-    reads
+add_good-requires c = sym (ap is_done c.read.ensures) ∙ ap (λ r. is_done (record_answer r)) c.in-Good.is
 
 pub returns-in-Refused : goal.returns-in-Refused
 returns-in-Refused c =
@@ -22,9 +19,7 @@ returns-in-Refused c =
 pub returns-in-Good : goal.returns-in-Good
 unfolding reads_well
 returns-in-Good c =
-    let reads : reads_well c.args.telegram.now ≡ true =
-    sym (ap is_done c.read.ensures) ∙ ap (λ r. is_done (record_answer r)) c.in-Good.is in
     let a = c.args in
+    let reads : reads_well a.telegram.now ≡ true = sym (ap is_done c.read.ensures) ∙ ap (λ r. is_done (record_answer r)) c.in-Good.is in
     let added = c.add_good.ensures in
-    let place = reads_place a.region.now a.telegram.now (reads) in
-    add_is a.region.now a.telegram.now place ∙ ap₂ (λ o r. (o, r)) (sym added.0) (sym added.1)
+    add_is a.region.now a.telegram.now (reads_place a.region.now a.telegram.now reads) ∙ ap₂ (λ o r. (o, r)) (sym added.0) (sym added.1)

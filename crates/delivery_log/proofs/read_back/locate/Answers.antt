@@ -1,15 +1,26 @@
--- `log::read_back::locate` meets its contract.
+-- `delivery_log::read_back::locate` meets its contract.
 use mathlib.Core.Path.{◌≡◌, refl, ap, sym, ◌∙◌}
-use Prim.Native.Nat.{◌<◌}
+use mathlib.Core.Bool.{Bool, true}
+use mathlib.Core.List.{List}
+use Prim.Native.Nat.{ℕ, ◌+◌, ◌-◌, ◌*◌, ◌%◌, ◌<◌}
 use native.Mathlib.Omega.{arith}
+use lib.ListN.{length, take, drop}
 use borrow.Author.Tests.{eq-eqb, ne_eqb}
-use Rattle.log_rules.specs.Block.{slots}
+use Rattle.log_rules.specs.Block.{block_size}
 use Rattle.log_rules.specs.Good.{is_good}
+use Rattle.log_rules.specs.Region.{block_at, blocks_in}
 use Rattle.log_rules.proofs.RegionLaws.{block_part}
-use Rattle.log_rules.proofs.ReadBackLaws.{GoodBlock, not_whole, no_such_block, bad_block, no_such_slot, is_slot}
-use Rattle.log_rules.proofs.ReadBackLaws.{ends_inside, telegram_there}
-use Rattle.log_rules.specs.Region.{block_at}
+use Rattle.log_rules.proofs.ReadBackLaws.{GoodBlock, not_whole, no_such_block, bad_block, no_such_slot, is_slot, ends_inside, telegram_there}
 use Rattle.delivery_log.proofs.read_back.locate.Goals as goal
+
+-- what the code's test of a part of the region says of the block that it is
+module _ (region : List ℕ) (block : ℕ) {answer : Bool}
+    (tested : answer ≡ is_good (take (block_size * block + block_size - block_size * block) (drop (block_size * block) region))) where
+  block_tested : is_good (block_at block region) ≡ answer
+  block_tested = ap is_good (sym (block_part block region)) ∙ sym tested
+
+  good_block : length region % block_size ≡ 0 → block < blocks_in region → answer ≡ true → GoodBlock region block
+  good_block whole there good = record { whole = eq-eqb _ _ whole; there = there; good = block_tested ∙ good }
 
 pub returns-then-length-ne0 : goal.returns-then-length-ne0
 returns-then-length-ne0 c =
@@ -23,105 +34,43 @@ returns-then-block-length c =
 
 pub returns-then-not-is_good : goal.returns-then-not-is_good
 returns-then-not-is_good c =
-    let tested : let a = c.args in is_good (block_at a.block a.region.now) ≡ c.is_good.result =
     let a = c.args in
-    ap is_good (sym (block_part a.block a.region.now)) ∙ sym c.is_good.ensures in
-    let a = c.args in
-    let whole = eq-eqb _ _ c.if-length-ne0.false in
-    let there = c.if-block-length.false in
-    (sym (bad_block a.region.now a.block a.slot whole there (tested ∙ c.if-not-is_good.true)), tt)
+    let bad = block_tested a.region.now a.block c.is_good.ensures ∙ c.if-not-is_good.true in
+    (sym (bad_block a.region.now a.block a.slot (eq-eqb _ _ c.if-length-ne0.false) c.if-block-length.false bad), tt)
 
 pub returns-then-slot-region : goal.returns-then-slot-region
 returns-then-slot-region c =
-    let tested : let a = c.args in is_good (block_at a.block a.region.now) ≡ c.is_good.result =
     let a = c.args in
-    ap is_good (sym (block_part a.block a.region.now)) ∙ sym c.is_good.ensures in
-    let good_block : let a = c.args in GoodBlock a.region.now a.block =
-    record {
-      whole = eq-eqb _ _ c.if-length-ne0.false;
-      there = c.if-block-length.false;
-      good = tested ∙ c.if-not-is_good.false;
-    } in
-    let a = c.args in
-    (sym (no_such_slot a.region.now a.block a.slot (good_block) c.if-slot-region.true), tt)
+    let good = good_block a.region.now a.block c.is_good.ensures c.if-length-ne0.false c.if-block-length.false c.if-not-is_good.false in
+    (sym (no_such_slot a.region.now a.block a.slot good (omega arith)), tt)
 
 pub overflow_mul-at : goal.overflow_mul-at
 overflow_mul-at c =
-    let tested : let a = c.args in is_good (block_at a.block a.region.now) ≡ c.is_good.result =
     let a = c.args in
-    ap is_good (sym (block_part a.block a.region.now)) ∙ sym c.is_good.ensures in
-    let good_block : let a = c.args in GoodBlock a.region.now a.block =
-    record {
-      whole = eq-eqb _ _ c.if-length-ne0.false;
-      there = c.if-block-length.false;
-      good = tested ∙ c.if-not-is_good.false;
-    } in
-    let used : c.args.slot < slots =
-    let a = c.args in
-    is_slot a.region.now a.block a.slot (good_block) c.if-slot-region.false in
-    omega (arith, used)
+    let good = good_block a.region.now a.block c.is_good.ensures c.if-length-ne0.false c.if-block-length.false c.if-not-is_good.false in
+    omega (arith, is_slot a.region.now a.block a.slot good c.if-slot-region.false)
 
 pub overflow_add-at : goal.overflow_add-at
 overflow_add-at c =
-    let tested : let a = c.args in is_good (block_at a.block a.region.now) ≡ c.is_good.result =
     let a = c.args in
-    ap is_good (sym (block_part a.block a.region.now)) ∙ sym c.is_good.ensures in
-    let good_block : let a = c.args in GoodBlock a.region.now a.block =
-    record {
-      whole = eq-eqb _ _ c.if-length-ne0.false;
-      there = c.if-block-length.false;
-      good = tested ∙ c.if-not-is_good.false;
-    } in
-    let used : c.args.slot < slots =
-    let a = c.args in
-    is_slot a.region.now a.block a.slot (good_block) c.if-slot-region.false in
-    omega (arith, used)
+    let good = good_block a.region.now a.block c.is_good.ensures c.if-length-ne0.false c.if-block-length.false c.if-not-is_good.false in
+    omega (arith, is_slot a.region.now a.block a.slot good c.if-slot-region.false)
 
 pub overflow_add-result : goal.overflow_add-result
 overflow_add-result c =
-    let tested : let a = c.args in is_good (block_at a.block a.region.now) ≡ c.is_good.result =
     let a = c.args in
-    ap is_good (sym (block_part a.block a.region.now)) ∙ sym c.is_good.ensures in
-    let good_block : let a = c.args in GoodBlock a.region.now a.block =
-    record {
-      whole = eq-eqb _ _ c.if-length-ne0.false;
-      there = c.if-block-length.false;
-      good = tested ∙ c.if-not-is_good.false;
-    } in
-    let used : c.args.slot < slots =
-    let a = c.args in
-    is_slot a.region.now a.block a.slot (good_block) c.if-slot-region.false in
-    omega (arith, used)
+    let good = good_block a.region.now a.block c.is_good.ensures c.if-length-ne0.false c.if-block-length.false c.if-not-is_good.false in
+    omega (arith, is_slot a.region.now a.block a.slot good c.if-slot-region.false)
 
 pub bounds-region-at : goal.bounds-region-at
 bounds-region-at c =
-    let tested : let a = c.args in is_good (block_at a.block a.region.now) ≡ c.is_good.result =
     let a = c.args in
-    ap is_good (sym (block_part a.block a.region.now)) ∙ sym c.is_good.ensures in
-    let good_block : let a = c.args in GoodBlock a.region.now a.block =
-    record {
-      whole = eq-eqb _ _ c.if-length-ne0.false;
-      there = c.if-block-length.false;
-      good = tested ∙ c.if-not-is_good.false;
-    } in
-    let used : c.args.slot < slots =
-    let a = c.args in
-    is_slot a.region.now a.block a.slot (good_block) c.if-slot-region.false in
-    omega (arith, used)
+    let good = good_block a.region.now a.block c.is_good.ensures c.if-length-ne0.false c.if-block-length.false c.if-not-is_good.false in
+    omega (arith, is_slot a.region.now a.block a.slot good c.if-slot-region.false)
 
 pub returns : goal.returns
 returns c =
-    let tested : let a = c.args in is_good (block_at a.block a.region.now) ≡ c.is_good.result =
     let a = c.args in
-    ap is_good (sym (block_part a.block a.region.now)) ∙ sym c.is_good.ensures in
-    let good_block : let a = c.args in GoodBlock a.region.now a.block =
-    record {
-      whole = eq-eqb _ _ c.if-length-ne0.false;
-      there = c.if-block-length.false;
-      good = tested ∙ c.if-not-is_good.false;
-    } in
-    let a = c.args in
-    let good = good_block in
+    let good = good_block a.region.now a.block c.is_good.ensures c.if-length-ne0.false c.if-block-length.false c.if-not-is_good.false in
     let some = c.if-slot-region.false in
-    let inside = ends_inside a.region.now a.block a.slot good some in
-    (sym (telegram_there a.region.now a.block a.slot good some), (refl, inside))
+    (sym (telegram_there a.region.now a.block a.slot good some), (refl, ends_inside a.region.now a.block a.slot good some))

@@ -1,35 +1,27 @@
 -- `listing::log_rows::bad_line` meets its contract.
-use mathlib.Core.Path.{sym}
+use mathlib.Core.Path.{◌≡◌}
+use Prim.Native.Nat.{ℕ, ◌^◌, ◌<◌}
 use native.Mathlib.Omega.{arith}
-use Rattle.listing.specs.Texts.{text_of}
+use Rattle.ascii.specs.Ascii.{ascii}
+use Rattle.listing.specs.Texts.{Text, appended, empty_text}
 use Rattle.listing_rules.specs.LogRows.{bad_count}
 use Rattle.listing.proofs.TextLaws.{behind, Holds, holds, stands, row_laid}
 use Rattle.listing_rules.proofs.LogRowLaws.{bad_count_short}
+use Rattle.listing_rules.specs.Decimals.{decimal}
 use Rattle.listing.proofs.log_rows.bad_line.Goals as goal
 
-pub slice_bounds-lay-end : goal.slice_bounds-lay-end
+-- the text, once all of it stands
+whole : {word number row : Text} (bad : ℕ) → bad < 2 ^ 64
+    → word ≡ appended empty_text (ascii "bad ") → number ≡ appended word (decimal bad) → row ≡ appended number (ascii "\n") → Holds row (bad_count bad)
 unfolding bad_count
-slice_bounds-lay-end c =
-    let whole : Holds (text_of c.push-len.new.text c.push-len.result) (bad_count c.args.bad) =
-    let a = c.args in
-    let number = behind _ _ _ c.append-len.ensures c.decimal-len.ensures in
-    holds _ _ (behind _ _ _ number c.push-len.ensures) (omega (arith, bad_count_short a.bad (omega arith))) in
-    sym (whole).room
+whole bad wide word number end = holds _ _ (behind _ _ _ (behind _ _ _ word number) end) (omega (arith, bad_count_short bad wide))
 
 pub lay-requires : goal.lay-requires
-unfolding bad_count
 lay-requires c =
-    let whole : Holds (text_of c.push-len.new.text c.push-len.result) (bad_count c.args.bad) =
     let a = c.args in
-    let number = behind _ _ _ c.append-len.ensures c.decimal-len.ensures in
-    holds _ _ (behind _ _ _ number c.push-len.ensures) (omega (arith, bad_count_short a.bad (omega arith))) in
-    stands (whole)
+    stands (whole a.bad (omega arith) c.append-len.ensures c.decimal-len.ensures c.push-len.ensures)
 
 pub returns : goal.returns
-unfolding bad_count
 returns c =
-    let whole : Holds (text_of c.push-len.new.text c.push-len.result) (bad_count c.args.bad) =
     let a = c.args in
-    let number = behind _ _ _ c.append-len.ensures c.decimal-len.ensures in
-    holds _ _ (behind _ _ _ number c.push-len.ensures) (omega (arith, bad_count_short a.bad (omega arith))) in
-    row_laid (whole) c.args.out.now c.lay.ensures
+    row_laid (whole a.bad (omega arith) c.append-len.ensures c.decimal-len.ensures c.push-len.ensures) a.out.now c.lay.ensures

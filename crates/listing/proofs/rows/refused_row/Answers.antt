@@ -1,41 +1,29 @@
 -- `listing::rows::refused_row` meets its contract.
-use mathlib.Core.Path.{sym}
+use mathlib.Core.Path.{◌≡◌}
+use Prim.Native.Nat.{ℕ, ◌^◌, ◌<◌}
 use native.Mathlib.Omega.{arith}
-use Rattle.listing.specs.Texts.{text_of}
+use Rattle.ascii.specs.Ascii.{ascii}
+use Rattle.listing.specs.Texts.{Text, appended, empty_text}
 use Rattle.listing_rules.specs.Listing.{refused_row}
 use Rattle.listing.proofs.TextLaws.{behind, Holds, holds, stands, row_laid}
 use Rattle.listing_rules.proofs.RowLaws.{refused_short}
+use Rattle.listing_rules.specs.Decimals.{decimal}
 use Rattle.listing.proofs.rows.refused_row.Goals as goal
 
-pub slice_bounds-lay-end : goal.slice_bounds-lay-end
+-- the text, once all of it stands
+whole : {first word refusal row : Text} (start number : ℕ) → start < 2 ^ 64 → number < 2 ^ 8
+    → first ≡ appended empty_text (decimal start) → word ≡ appended first (ascii ";refused ") → refusal ≡ appended word (decimal number)
+    → row ≡ appended refusal (ascii "\n") → Holds row (refused_row start number)
 unfolding refused_row
-slice_bounds-lay-end c =
-    let whole : Holds (text_of c.push-len.new.text c.push-len.result) (refused_row c.args.start c.args.number) =
-    let a = c.args in
-    let start = behind _ _ _ c.decimal-len.ensures c.append-len.ensures in
-    let number = behind _ _ _ start c.decimal-len-2.ensures in
-    holds _ _ (behind _ _ _ number c.push-len.ensures)
-    (omega (arith, refused_short a.start a.number (omega arith) (omega arith))) in
-    sym (whole).room
+whole start number wide small first word refusal end =
+    holds _ _ (behind _ _ _ (behind _ _ _ (behind _ _ _ first word) refusal) end) (omega (arith, refused_short start number wide small))
 
 pub lay-requires : goal.lay-requires
-unfolding refused_row
 lay-requires c =
-    let whole : Holds (text_of c.push-len.new.text c.push-len.result) (refused_row c.args.start c.args.number) =
     let a = c.args in
-    let start = behind _ _ _ c.decimal-len.ensures c.append-len.ensures in
-    let number = behind _ _ _ start c.decimal-len-2.ensures in
-    holds _ _ (behind _ _ _ number c.push-len.ensures)
-    (omega (arith, refused_short a.start a.number (omega arith) (omega arith))) in
-    stands (whole)
+    stands (whole a.start a.number (omega arith) (omega arith) c.decimal-len.ensures c.append-len.ensures c.decimal-len-2.ensures c.push-len.ensures)
 
 pub returns : goal.returns
-unfolding refused_row
 returns c =
-    let whole : Holds (text_of c.push-len.new.text c.push-len.result) (refused_row c.args.start c.args.number) =
     let a = c.args in
-    let start = behind _ _ _ c.decimal-len.ensures c.append-len.ensures in
-    let number = behind _ _ _ start c.decimal-len-2.ensures in
-    holds _ _ (behind _ _ _ number c.push-len.ensures)
-    (omega (arith, refused_short a.start a.number (omega arith) (omega arith))) in
-    row_laid (whole) c.args.out.now c.lay.ensures
+    row_laid (whole a.start a.number (omega arith) (omega arith) c.decimal-len.ensures c.append-len.ensures c.decimal-len-2.ensures c.push-len.ensures) a.out.now c.lay.ensures

@@ -1,35 +1,27 @@
 -- `listing::rows::stray_line` meets its contract.
-use mathlib.Core.Path.{sym}
+use mathlib.Core.Path.{◌≡◌}
+use Prim.Native.Nat.{ℕ, ◌^◌, ◌<◌}
 use native.Mathlib.Omega.{arith}
-use Rattle.listing.specs.Texts.{text_of}
+use Rattle.ascii.specs.Ascii.{ascii}
+use Rattle.listing.specs.Texts.{Text, appended, empty_text}
 use Rattle.listing_rules.specs.Listing.{stray_row}
 use Rattle.listing.proofs.TextLaws.{behind, Holds, holds, stands, row_laid}
 use Rattle.listing_rules.proofs.RowLaws.{stray_short}
+use Rattle.listing_rules.specs.Decimals.{decimal}
 use Rattle.listing.proofs.rows.stray_line.Goals as goal
 
-pub slice_bounds-lay-end : goal.slice_bounds-lay-end
+-- the text, once all of it stands
+whole : {word number row : Text} (stray : ℕ) → stray < 2 ^ 32
+    → word ≡ appended empty_text (ascii "stray ") → number ≡ appended word (decimal stray) → row ≡ appended number (ascii "\n") → Holds row (stray_row stray)
 unfolding stray_row
-slice_bounds-lay-end c =
-    let whole : Holds (text_of c.push-len.new.text c.push-len.result) (stray_row c.args.stray) =
-    let a = c.args in
-    let number = behind _ _ _ c.append-len.ensures c.decimal-len.ensures in
-    holds _ _ (behind _ _ _ number c.push-len.ensures) (omega (arith, stray_short a.stray (omega arith))) in
-    sym (whole).room
+whole stray counted word number end = holds _ _ (behind _ _ _ (behind _ _ _ word number) end) (omega (arith, stray_short stray counted))
 
 pub lay-requires : goal.lay-requires
-unfolding stray_row
 lay-requires c =
-    let whole : Holds (text_of c.push-len.new.text c.push-len.result) (stray_row c.args.stray) =
     let a = c.args in
-    let number = behind _ _ _ c.append-len.ensures c.decimal-len.ensures in
-    holds _ _ (behind _ _ _ number c.push-len.ensures) (omega (arith, stray_short a.stray (omega arith))) in
-    stands (whole)
+    stands (whole a.stray (omega arith) c.append-len.ensures c.decimal-len.ensures c.push-len.ensures)
 
 pub returns : goal.returns
-unfolding stray_row
 returns c =
-    let whole : Holds (text_of c.push-len.new.text c.push-len.result) (stray_row c.args.stray) =
     let a = c.args in
-    let number = behind _ _ _ c.append-len.ensures c.decimal-len.ensures in
-    holds _ _ (behind _ _ _ number c.push-len.ensures) (omega (arith, stray_short a.stray (omega arith))) in
-    row_laid (whole) c.args.out.now c.lay.ensures
+    row_laid (whole a.stray (omega arith) c.append-len.ensures c.decimal-len.ensures c.push-len.ensures) a.out.now c.lay.ensures

@@ -2,7 +2,8 @@
 use mathlib.Core.Path.{◌≡◌, sym, ap, ◌∙◌, subst}
 use native.Mathlib.Omega.{arith}
 use mir.Syntax.{w8, w16}
-use mir.Val.{Fits, SFits}
+use lib.IntN.{ℤ}
+use mir.Val.{Fits, SFits, to_z, of_z}
 use mir.Facts.{to_z-of_z}
 use borrow.Fn.Kinds.{GoodsP}
 use borrow.Author.Tests.{le-ltb}
@@ -13,13 +14,19 @@ use borrow.Author.Rules.{rules}
 use Rattle.remote.proofs.rule.refusal.Lts as lts
 use Rattle.remote.proofs.rule.refusal.Goals as goal
 
+-- a difference is handed on as it is read
+same : (difference : ℤ) → SFits w16 difference → to_z w16 (of_z w16 difference) ≡ difference
+same difference fits = to_z-of_z fits
+
 pub returns-then-is_within_12_hours : goal.returns-then-is_within_12_hours
 returns-then-is_within_12_hours c =
-    let within_read : c.is_within_12_hours.result ≡ within12_hours c.in-Dif.difference =
-    let difference = c.in-Dif.difference in
-    let fits : SFits w16 difference = search rules in
-    c.is_within_12_hours.ensures ∙ ap within12_hours (to_z-of_z fits) in
-    rw (c.in-Dif.is, sym (within_read) ∙ c.if-is_within_12_hours.true)
+    let within = c.is_within_12_hours.ensures ∙ ap within12_hours (same c.in-Dif.difference (search rules)) in
+    rw (c.in-Dif.is, sym within ∙ c.if-is_within_12_hours.true)
+
+pub returns-else-is_within_12_hours : goal.returns-else-is_within_12_hours
+returns-else-is_within_12_hours c =
+    let within = c.is_within_12_hours.ensures ∙ ap within12_hours (same c.in-Dif.difference (search rules)) in
+    rw (c.in-Dif.is, sym within ∙ c.if-is_within_12_hours.false)
 
 pub returns-then-position_in_range : goal.returns-then-position_in_range
 returns-then-position_in_range c = rw (c.in-Pos.is, sym c.position_in_range.ensures ∙ c.if-position_in_range.true)
@@ -38,14 +45,6 @@ returns-in-TimAsked c =
     let status = c.in-TimAsked.field-0 in
     let told : GoodsP tt lts.ps (TimAsked status, tt) = subst (λ x. GoodsP tt lts.ps (x, tt)) c.in-TimAsked.is c.well_formed in
     rw (c.in-TimAsked.is, le-ltb 255 status (omega (arith, told)))
-
-pub returns-else-is_within_12_hours : goal.returns-else-is_within_12_hours
-returns-else-is_within_12_hours c =
-    let within_read : c.is_within_12_hours.result ≡ within12_hours c.in-Dif.difference =
-    let difference = c.in-Dif.difference in
-    let fits : SFits w16 difference = search rules in
-    c.is_within_12_hours.ensures ∙ ap within12_hours (to_z-of_z fits) in
-    rw (c.in-Dif.is, sym (within_read) ∙ c.if-is_within_12_hours.false)
 
 pub returns-else-position_in_range : goal.returns-else-position_in_range
 returns-else-position_in_range c = rw (c.in-Pos.is, sym c.position_in_range.ensures ∙ c.if-position_in_range.false)
