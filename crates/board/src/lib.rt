@@ -5,13 +5,13 @@
 pub mod of_6036;
 pub mod of_6038;
 
-ghost use Rattle.std.specs.Prelude.{◌≡◌, cond, ◌||◌, [], ◌∷◌, ◌*◌, ◌≤◌, eqb};
+ghost use Rattle.std.specs.Prelude.{◌≡◌, cond, ◌||◌, [], ◌∷◌, ◌*◌, ◌≤◌, eqb, position};
 ghost use Rattle.bits.specs.Bits.{bit};
 ghost use Rattle.board_rules.specs.Switches.{byte_of};
 ghost use Rattle.board_rules.specs.Rates.{rate_at, rate_row};
 ghost use Rattle.board_rules.specs.Settings.{at_parity, is_offered};
 
-pub use board_rules::{ByteAnswer, Parity};
+pub use board_rules::Parity;
 
 // What each switch weighs in the byte. Switch 1 is the lowest bit.
 const SWITCH_1: u8 = 1;
@@ -37,30 +37,21 @@ const RATES: [u32; 8] = [150, 300, 600, 1200, 2400, 4800, 9600, 19200];
 fn pick(on: bool, this: u8, other: u8) -> u8
     ensures { result ≡ cond on this other }
 {
-    if on {
-        return this;
-    }
-    other
+    if on { this } else { other }
 }
 
 // Whether a number is one of two.
 fn is_either(number: u8, one: u8, other: u8) -> bool
     ensures { result ≡ (eqb number one || eqb number other) }
 {
-    if number == one {
-        return true;
-    }
-    number == other
+    number == one || number == other
 }
 
 // What a switch adds to a sum: its weight where it is on.
 fn weigh(weight: u8, on: bool) -> u8
     ensures { (result ≡ weight * bit on) × (result ≤ weight) }
 {
-    if on {
-        return weight;
-    }
-    0
+    weight * u8::from(on)
 }
 
 // The rate at three switches, given in the order in which the board's table names them.
@@ -71,19 +62,18 @@ fn rate_at(first: bool, second: bool, third: bool) -> u32
     RATES[row as usize]
 }
 
+// The first row of a table that has a rate, if any has it.
+fn row_in(table: &[u32], baud: u32) -> Option<usize>
+    ensures { result ≡ position (λ rate. eqb rate baud) table.now }
+{
+    table.iter().position(|rate| *rate == baud)
+}
+
 // The row of a rate, or 8 where it stands in none.
 fn row_of(baud: u32) -> u8
     ensures { result ≡ rate_row baud }
 {
-    let rates = RATES;
-    let mut row = 0;
-    while row < 8 {
-        if rates[row] == baud {
-            return row as u8;
-        }
-        row += 1;
-    }
-    8
+    row_in(&RATES, baud).unwrap_or(RATES.len()) as u8
 }
 
 // What a switch is at a parity, of what it is at none, at even and at odd.
@@ -101,13 +91,7 @@ fn at_parity(parity: Parity, none: bool, even: bool, odd: bool) -> bool
 fn is_offered(data_bits: u8, stop_bits: u8, baud: u32) -> bool
     ensures { result ≡ is_offered data_bits stop_bits baud }
 {
-    if !is_either(data_bits, 8, 7) {
-        return false;
-    }
-    if !is_either(stop_bits, 1, 2) {
-        return false;
-    }
-    row_of(baud) < 8
+    is_either(data_bits, 8, 7) && is_either(stop_bits, 1, 2) && row_of(baud) < 8
 }
 
 // The byte of eight switches, from switch 1 on.

@@ -1,26 +1,24 @@
 // The parameter byte of the 6036 board.
 ghost use Rattle.std.specs.Prelude.{◌≡◌};
 ghost use Rattle.board_rules.specs.Of6036.{parity_in, parameter_in, byte_for};
-ghost use Rattle.board_rules.specs.Answers.{byte_answer};
+ghost use Rattle.refusals.specs.Numbers.{outcome};
 
 use super::{
-    ByteAnswer, Parity, SWITCH_1, SWITCH_2, SWITCH_3, SWITCH_4, SWITCH_5, SWITCH_6, SWITCH_7,
-    SWITCH_8, at_parity, byte_of, is_offered, pick, rate_at, row_of,
+    Parity, SWITCH_1, SWITCH_2, SWITCH_3, SWITCH_4, SWITCH_5, SWITCH_6, SWITCH_7, SWITCH_8,
+    at_parity, byte_of, is_offered, pick, rate_at, row_of,
 };
 pub use board_rules::of_6036::Parameter;
-use refusals::NOT_OFFERED;
+use refusals::Refusal;
 
 // Switch 4 counts only where switch 3 is off.
 fn parity_in(byte: u8) -> Parity
     ensures { result ≡ parity_in byte }
 {
-    if byte / SWITCH_3 % 2 == 1 {
-        return Parity::None;
+    match (byte / SWITCH_3 % 2 == 1, byte / SWITCH_4 % 2 == 1) {
+        (true, _) => Parity::None,
+        (false, true) => Parity::Even,
+        (false, false) => Parity::Odd,
     }
-    if byte / SWITCH_4 % 2 == 1 {
-        return Parity::Even;
-    }
-    Parity::Odd
 }
 
 // The setting of a byte. Every byte is one.
@@ -42,15 +40,15 @@ pub fn read(byte: u8) -> Parameter
 
 // The byte of a setting; 16 for one that the board does not offer. No parity is written on/on, although the board reads on/off
 // as no parity too.
-pub fn write(parameter: Parameter) -> ByteAnswer
-    ensures { byte_answer result ≡ byte_for parameter }
+pub fn write(parameter: Parameter) -> Result<u8, Refusal>
+    ensures { outcome result ≡ byte_for parameter }
 {
     if !is_offered(parameter.data_bits, parameter.stop_bits, parameter.baud) {
-        return ByteAnswer::Refused(NOT_OFFERED);
+        return Err(Refusal::NotOffered);
     }
     let parity = parameter.parity;
     let row = row_of(parameter.baud);
-    ByteAnswer::Byte(byte_of(
+    Ok(byte_of(
         parameter.utc,
         parameter.data_bits == 8,
         at_parity(parity, true, false, false),

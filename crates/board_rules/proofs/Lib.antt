@@ -3,6 +3,5 @@ pub mod RateLaws
 pub mod SettingLaws
 pub mod Laws6036
 pub mod Laws6038
-pub mod Whole
 pub mod AsPrintedHolds
 pub mod AsPrinted6038Holds

@@ -1,24 +1,40 @@
 -- Laws of the baud table. Assumes nothing.
-use mathlib.Core.Path.{◌≡◌, refl, ap, ◌∙◌}
+use mathlib.Core.Path.{◌≡◌, refl, ap, sym, ◌∙◌}
 use mathlib.Core.Bool.{Bool, true, false, cond}
 use mathlib.Core.List.{List, [], ◌∷◌}
-use Prim.Native.Nat.{ℕ, suc, ◌+◌, ◌<◌}
-use native.Mathlib.Numerals.{add-one}
+use Prim.Native.Nat.{ℕ, suc, ◌+◌, ◌≤◌, ◌<◌}
 use native.Mathlib.Omega.{arith}
-use lib.Dec.{eqb}
-use lib.ListN.{length, drop, get_or}
-use lib.Seq.{drop-cons}
-use borrow.Author.Tests.{eq-eqb, ne_eqb, eqb-true}
+use lib.Dec.{eqb, ltb}
+use lib.ListN.{length, get_or}
+use borrow.Author.Tests.{eqb-true, ltb-false}
+use Rattle.std.specs.Prelude.{None, Some, position}
+use Rattle.std.specs.List.{position_or_len}
+use Rattle.std.specs.Option.{unwrap_or}
+use Rattle.std.proofs.lemmas.List.Recursion.{is_position_or_len}
 use Rattle.refusals.proofs.Tables.{below}
 use Rattle.board_rules.specs.Rates.{rates, row_in, rate_row, row_at, rate_at, first_at, second_at, third_at}
 
--- what one row says of the rows from it on
-module _ (table : List ℕ) (baud row : ℕ) (inside : row < length table) where
-  pub row_here : get_or table row 0 ≡ baud → row_in (drop row table) baud ≡ 0
-  row_here same = rw (drop-cons table row 0 inside, eq-eqb _ _ same)
+row_bound : (table : List ℕ) (baud : ℕ) → row_in table baud ≤ length table
+row_bound [] baud = omega arith
+row_bound (rate ∷ more) baud = go (eqb rate baud) (row_bound more baud)
+  where
+    go : (t : Bool) → row_in more baud ≤ length more → cond t 0 (suc (row_in more baud)) ≤ suc (length more)
+    go true h = omega arith
+    go false h = omega arith
 
-  pub row_behind : (get_or table row 0 ≡ baud → ⊥) → row_in (drop row table) baud ≡ suc (row_in (drop (row + 1) table) baud)
-  row_behind other = rw (add-one row, drop-cons table row 0 inside, ne_eqb _ _ other)
+-- the row of a rate is where it is found first
+pub row_found : (table : List ℕ) (baud : ℕ) → unwrap_or (position (λ rate. eqb rate baud) table) (length table) ≡ row_in table baud
+row_found table baud =
+    let passes : ℕ → Bool = λ rate. eqb rate baud in
+    let first : row_in table baud ≡ position_or_len passes table =
+    is_position_or_len (λ rates. row_in rates baud) passes refl
+    (λ rate more. let one : suc (row_in more baud) ≡ 1 + row_in more baud = omega arith in ap (λ row. cond (eqb rate baud) 0 row) one)
+    table in
+    go (position_or_len passes table) (sym first) (ltb (position_or_len passes table) (length table)) refl
+  where
+    go : (row : ℕ) → row ≡ row_in table baud → (t : Bool) → ltb row (length table) ≡ t → unwrap_or (cond t (Some row) None) (length table) ≡ row_in table baud
+    go row is true e = is
+    go row is false e = let behind = ltb-false _ _ e in omega (arith, row_bound table baud)
 
 -- a rate that stands in the table stands in its row
 stands : (table : List ℕ) (baud : ℕ) → row_in table baud < length table → get_or table (row_in table baud) 0 ≡ baud

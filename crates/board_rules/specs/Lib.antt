@@ -3,7 +3,6 @@ pub mod Rates
 pub mod Settings
 pub mod Of6036
 pub mod Of6038
-pub mod Answers
 pub mod RoundTrip
 pub mod RoundTrip6038
 pub mod Rows

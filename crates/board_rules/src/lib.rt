@@ -5,16 +5,9 @@ pub mod of_6036;
 pub mod of_6038;
 
 // The parity bit of a character.
-#[derive(Clone, Copy)]
+#[derive(Clone, Copy, Debug, PartialEq, Eq)]
 pub enum Parity {
     None,
     Even,
     Odd,
-}
-
-// The byte of a setting, or the number that refuses it.
-#[derive(Clone, Copy)]
-pub enum ByteAnswer {
-    Byte(u8),
-    Refused(u8),
 }

@@ -3,7 +3,7 @@ use super::Parity;
 
 // How the board sends: in UTC or in CET and CEST, and in which form. Data bits, stop bits and baud are plain numbers, so that a
 // caller can ask for what the board does not offer, and is refused.
-#[derive(Clone, Copy)]
+#[derive(Clone, Copy, Debug, PartialEq, Eq)]
 pub struct Parameter {
     pub utc: bool,
     pub data_bits: u8,

@@ -1,24 +1,17 @@
 // Dates, day numbers and weekdays. Day 0 is 1 January 1980.
 ghost use Rattle.std.specs.Prelude.{◌≡◌, ◌<◌};
 ghost use Rattle.calendar_rules.specs.Calendar.{is_leap, month_length, month_in_range, date_refusal, days_in_month, day_number, month_holding, month_start, date_of, weekday_of, next_day};
-ghost use Rattle.calendar_rules.specs.Answers.{days_answer, day_answer, date_answer};
+ghost use Rattle.refusals.specs.Numbers.{outcome, verdict};
 
-use super::inside;
 use super::month_starts::month_starts;
-pub use calendar_rules::date::{Date, DateAnswer, DayAnswer, DaysAnswer};
-use refusals::{NO_SUCH_DAY, NONE, OUT_OF_RANGE, OUTSIDE_CALENDAR};
+pub use calendar_rules::date::Date;
+use refusals::Refusal;
 
 // Every fourth year; of the full hundreds, every fourth.
 fn is_leap(year: u16) -> bool
     ensures { result ≡ is_leap year }
 {
-    if year % 4 != 0 {
-        return false;
-    }
-    if year % 100 != 0 {
-        return true;
-    }
-    year % 400 == 0
+    year % 4 == 0 && (year % 100 != 0 || year % 400 == 0)
 }
 
 // How many days a month has. A number that is no month has 31 here: the callers ask for the range.
@@ -26,12 +19,8 @@ fn month_length(year: u16, month: u8) -> u8
     ensures { result ≡ month_length year month }
 {
     match month {
-        2 => {
-            if is_leap(year) {
-                return 29;
-            }
-            28
-        }
+        2 if is_leap(year) => 29,
+        2 => 28,
         4 | 6 | 9 | 11 => 30,
         _ => 31,
     }
@@ -41,49 +30,40 @@ fn month_length(year: u16, month: u8) -> u8
 fn month_in_range(year: u16, month: u8) -> bool
     ensures { result ≡ month_in_range year month }
 {
-    if !inside(1980, year, 2079) {
-        return false;
-    }
-    inside(1, month as u16, 12)
+    (1980..=2079).contains(&year) && (1..=12).contains(&month)
 }
 
-// The number that refuses a date, and NONE where the calendar has it.
-fn date_refusal(date: Date) -> u8
-    ensures { result ≡ date_refusal date }
+// Refuses a date that the calendar does not have.
+fn check(date: Date) -> Result<(), Refusal>
+    ensures { verdict result ≡ date_refusal date }
 {
-    if !month_in_range(date.year, date.month) {
-        return OUT_OF_RANGE;
-    }
-    if !inside(1, date.day as u16, 31) {
-        return OUT_OF_RANGE;
+    if !month_in_range(date.year, date.month) || !(1..=31).contains(&date.day) {
+        return Err(Refusal::OutOfRange);
     }
     if month_length(date.year, date.month) < date.day {
-        return NO_SUCH_DAY;
+        return Err(Refusal::NoSuchDay);
     }
-    NONE
+    Ok(())
 }
 
 // How many days a month of the calendar has; 6 for a month or year out of range.
-pub fn days_in_month(year: u16, month: u8) -> DaysAnswer
-    ensures { days_answer result ≡ days_in_month year month }
+pub fn days_in_month(year: u16, month: u8) -> Result<u8, Refusal>
+    ensures { outcome result ≡ days_in_month year month }
 {
     if !month_in_range(year, month) {
-        return DaysAnswer::Refused(OUT_OF_RANGE);
+        return Err(Refusal::OutOfRange);
     }
-    DaysAnswer::Days(month_length(year, month))
+    Ok(month_length(year, month))
 }
 
 // The day number of a date, from 1 January 1980 as 0; 6 or 7 for a date that the calendar does not have.
-pub fn day_number(date: Date) -> DayAnswer
-    ensures { day_answer result ≡ day_number date }
+pub fn day_number(date: Date) -> Result<u32, Refusal>
+    ensures { outcome result ≡ day_number date }
 {
-    let refused = date_refusal(date);
-    if refused != NONE {
-        return DayAnswer::Refused(refused);
-    }
+    check(date)?;
     let starts = month_starts(date.year);
     let first = starts[date.month as usize - 1];
-    DayAnswer::Day(first as u32 + (date.day as u32 - 1))
+    Ok(first as u32 + (date.day as u32 - 1))
 }
 
 // A month by its place in the table, with its first day's number.
@@ -93,17 +73,18 @@ struct Month {
     first: u32,
 }
 
-// The month that holds a day: the last of its year that begins no later. Each four years have 1,461 days, and the first is the leap year.
+// The month that holds a day: the one before the first of its year that begins later. Each four years have 1,461 days, and the first is the leap year.
 fn month_holding(day: u32) -> Month
     requires { day < 36525 }
     ensures { (result.index ≡ month_holding day) × (result.first ≡ month_start (month_holding day)) }
 {
     let years = 4 * day / 1461;
     let starts = month_starts((1980 + years) as u16);
-    let mut month = 11;
-    while day < starts[month] as u32 {
-        month -= 1;
-    }
+    let behind = starts
+        .iter()
+        .position(|start| day < *start as u32)
+        .unwrap_or(12);
+    let month = behind - 1;
     Month {
         index: 12 * years + month as u32,
         first: starts[month] as u32,
@@ -111,14 +92,14 @@ fn month_holding(day: u32) -> Month
 }
 
 // The date of a day number; 12 for a day outside the calendar.
-pub fn date_of(day: u32) -> DateAnswer
-    ensures { date_answer result ≡ date_of day }
+pub fn date_of(day: u32) -> Result<Date, Refusal>
+    ensures { outcome result ≡ date_of day }
 {
     if 36525 <= day {
-        return DateAnswer::Refused(OUTSIDE_CALENDAR);
+        return Err(Refusal::OutsideCalendar);
     }
     let month = month_holding(day);
-    DateAnswer::Found(Date {
+    Ok(Date {
         year: (1980 + month.index / 12) as u16,
         month: (month.index % 12 + 1) as u8,
         day: (day - month.first + 1) as u8,
@@ -133,33 +114,30 @@ pub fn weekday(day: u32) -> u8
 }
 
 // The day after; 6 or 7 for a date that the calendar does not have, 12 after 31.12.2079.
-pub fn next_day(date: Date) -> DateAnswer
-    ensures { date_answer result ≡ next_day date }
+pub fn next_day(date: Date) -> Result<Date, Refusal>
+    ensures { outcome result ≡ next_day date }
 {
-    let refused = date_refusal(date);
-    if refused != NONE {
-        return DateAnswer::Refused(refused);
-    }
+    check(date)?;
     if date.day < month_length(date.year, date.month) {
-        return DateAnswer::Found(Date {
+        return Ok(Date {
             year: date.year,
             month: date.month,
             day: date.day + 1,
         });
     }
     if date.month < 12 {
-        return DateAnswer::Found(Date {
+        return Ok(Date {
             year: date.year,
             month: date.month + 1,
             day: 1,
         });
     }
     if date.year < 2079 {
-        return DateAnswer::Found(Date {
+        return Ok(Date {
             year: date.year + 1,
             month: 1,
             day: 1,
         });
     }
-    DateAnswer::Refused(OUTSIDE_CALENDAR)
+    Err(Refusal::OutsideCalendar)
 }

@@ -6,16 +6,3 @@ pub mod date;
 mod month_starts;
 pub mod time;
 pub mod year;
-
-ghost use Rattle.std.specs.Prelude.{◌≡◌};
-ghost use Rattle.calendar_rules.specs.Ranges.{inside};
-
-// Whether low, x and high stand in that order.
-fn inside(low: u16, x: u16, high: u16) -> bool
-    ensures { result ≡ inside low x high }
-{
-    if x < low {
-        return false;
-    }
-    x <= high
-}

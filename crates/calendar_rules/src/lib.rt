@@ -3,4 +3,3 @@
 
 pub mod date;
 pub mod time;
-pub mod year;

@@ -1,24 +1,16 @@
-// The time of day, and the answers about it.
+// The time of day.
 
 // A time as a telegram carries it; whether the day has it is asked by each function.
-#[derive(Clone, Copy)]
+#[derive(Clone, Copy, Debug, PartialEq, Eq)]
 pub struct Time {
     pub hour: u8,
     pub minute: u8,
     pub second: u8,
 }
 
-// The second of the day, or the number that refuses the time.
-#[derive(Clone, Copy)]
-pub enum SecondAnswer {
-    Second(u32),
-    Refused(u8),
-}
-
 // The next second, and whether it belongs to the same day or to the next.
-#[derive(Clone, Copy)]
-pub enum NextSecondAnswer {
+#[derive(Clone, Copy, Debug, PartialEq, Eq)]
+pub enum NextSecond {
     SameDay(Time),
     NextDay(Time),
-    Refused(u8),
 }

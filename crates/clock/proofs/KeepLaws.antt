@@ -22,8 +22,7 @@ use Rattle.record_rules.specs.Following.{seconds_on}
 use Rattle.record_rules.proofs.UtcLaws.{seconds_in_later, count_within, had_count, utc_later}
 use Rattle.record_rules.proofs.FollowingLaws.{next_is_later}
 use Rattle.clock.specs.declared.Clock.{Clock}
-use Rattle.clock.specs.declared.StepAnswer.TheVariants as answer
-use Rattle.clock.specs.Stepping.{clock_second, stepped_by, step_of}
+use Rattle.clock.specs.Stepping.{clock_second, made, stepped_by, step_of}
 use Rattle.clock.specs.Running.{seconds_of_steps, stepped, StepsAddAsManyUtcSeconds, dated, lasting, SteppingDoesNotChangeTheSeason}
 use Rattle.clock.proofs.StepLaws.{second_is_next}
 use Rattle.clock.proofs.RunLaws.{one_step_more}
@@ -42,8 +41,8 @@ standing_after (TimeOnly layout time) = refl
 standing_next : (rec next : Record) → next_second_of rec ≡ done next → lasting next ≡ lasting rec
 unfolding next_second_of
 standing_next rec next e =
-    let made = was_done (refusal_of rec else 12 when is_last_of_calendar rec) (record_after rec) next e in
-    ap lasting (sym made.1) ∙ standing_after rec
+    let told = was_done (refusal_of rec else 12 when is_last_of_calendar rec) (record_after rec) next e in
+    ap lasting (sym told.1) ∙ standing_after rec
 
 -- one step
 lasting_stays : (clock : Clock) → lasting (step_of clock).clock.rec ≡ lasting clock.rec
@@ -73,27 +72,27 @@ utc_goes_along (Dated layout status weekday date time) (TimeOnly layout' time') 
 utc_goes_along (TimeOnly layout time) next count utc n same here later within e = let z : ◌≡◌ {A = ℕ} 0 1 = cc in absurd (omega arith)
 
 -- a step that is made adds its UTC seconds
-utc_step : (clock : Clock) (utc : UtcSeconds) → utc_seconds clock.rec ≡ done utc → (step_of clock).answer ≡ answer.Stepped
+utc_step : (clock : Clock) (utc : UtcSeconds) → utc_seconds clock.rec ≡ done utc → (step_of clock).answer ≡ made
     → utc_seconds (step_of clock).clock.rec ≡ done (record { 0 = utc.0 + seconds_on clock.rec })
 unfolding step_of
 utc_step clock utc e = go (clock_second clock.rec) refl
   where
-    go : (outcome : Outcome Record) → clock_second clock.rec ≡ outcome → (stepped_by clock outcome).answer ≡ answer.Stepped
+    go : (outcome : Outcome Record) → clock_second clock.rec ≡ outcome → (stepped_by clock outcome).answer ≡ made
         → utc_seconds (stepped_by clock outcome).clock.rec ≡ done (record { 0 = utc.0 + seconds_on clock.rec })
-    go (done next) is made =
+    go (done next) is step =
         let follows = second_is_next clock.rec next is in
         let had = had_count clock.rec utc e in
         let later = next_is_later clock.rec next had.0 follows had.1 in
         let within : seconds_in had.0 + seconds_on clock.rec < calendar_seconds =
         omega (arith, seconds_in_later had.0 (seconds_on clock.rec), count_within next _ later) in
         utc_goes_along clock.rec next had.0 utc _ (standing_next clock.rec next follows) had.1 later within e
-    go (refused n) is made = let z : ◌≡◌ {A = ℕ} 0 1 = cc in absurd (omega arith)
+    go (refused n) is step = let z : ◌≡◌ {A = ℕ} 0 1 = cc in absurd (omega arith)
 
 pub steps_add_utc_seconds : StepsAddAsManyUtcSeconds
 unfolding stepped
-steps_add_utc_seconds clock utc zero e made = e ∙ (let same : utc.0 ≡ utc.0 + 0 = omega arith in λ i. done (record { 0 = same i }))
-steps_add_utc_seconds clock utc (suc n) e made =
-    let so_far = steps_add_utc_seconds clock utc n e (λ k below. made k (omega arith)) in
-    let step = one_step_more n clock (λ k below. made k (omega arith)) in
+steps_add_utc_seconds clock utc zero e each = e ∙ (let same : utc.0 ≡ utc.0 + 0 = omega arith in λ i. done (record { 0 = same i }))
+steps_add_utc_seconds clock utc (suc n) e each =
+    let so_far = steps_add_utc_seconds clock utc n e (λ k below. each k (omega arith)) in
+    let step = one_step_more n clock (λ k below. each k (omega arith)) in
     let more : utc.0 + seconds_of_steps n clock.rec + seconds_on (stepped n clock).rec ≡ utc.0 + seconds_of_steps (suc n) clock.rec = omega (arith, step) in
-    utc_step (stepped n clock) (record { 0 = utc.0 + seconds_of_steps n clock.rec }) so_far (made n (omega arith)) ∙ (λ i. done (record { 0 = more i }))
+    utc_step (stepped n clock) (record { 0 = utc.0 + seconds_of_steps n clock.rec }) so_far (each n (omega arith)) ∙ (λ i. done (record { 0 = more i }))

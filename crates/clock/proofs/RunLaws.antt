@@ -31,8 +31,7 @@ use Rattle.record_rules.proofs.UtcLaws.{done_after, followers_number, plain_time
 use Rattle.record_rules.proofs.FollowingLaws.{next_is_later}
 use Rattle.record_rules.proofs.LastSixtyHolds.{last_is_good, last_sixty, last_next}
 use Rattle.clock.specs.declared.Clock.{Clock}
-use Rattle.clock.specs.declared.StepAnswer.TheVariants as answer
-use Rattle.clock.specs.Stepping.{clock_second, stepped_by, step_of}
+use Rattle.clock.specs.Stepping.{clock_second, made, stepped_by, step_of}
 use Rattle.clock.specs.Running.{seconds_of_steps, AStepAddsOneSecond, TheLastSecondGives12, TheLastSixtyGives12, NoStepMakesASixty, stepped, EachIsMade, StepsAddAsManySeconds}
 use Rattle.clock.specs.AsPrinted.{TheLastSixtyIsAsPrinted}
 use Rattle.clock.proofs.StepLaws.{second_is_next, second_refused, goes_on}
@@ -107,13 +106,13 @@ pub step_adds_a_second : AStepAddsOneSecond
 step_adds_a_second clock count counted before =
     let p = placed clock.rec count counted in
     let n = goes clock.rec count counted before in
-    let made = goes_on clock _ _ _ _ _ n.0 p.is n.1 in
-    (ap (λ s. s.answer) (sym made), ap (λ s. count_of s.clock.rec) (sym made) ∙ next_is_later clock.rec n.0 count n.1 counted)
+    let step = goes_on clock _ _ _ _ _ n.0 p.is n.1 in
+    (ap (λ s. s.answer) (sym step), ap (λ s. count_of s.clock.rec) (sym step) ∙ next_is_later clock.rec n.0 count n.1 counted)
 
 pub last_second_gives_12 : TheLastSecondGives12
 last_second_gives_12 clock count counted end = go (is60 clock.rec) refl end
   where
-    go : (sixty : Bool) → is60 clock.rec ≡ sixty → seconds_in count + cond sixty 0 1 ≡ calendar_seconds → (step_of clock).answer ≡ answer.Refused 12
+    go : (sixty : Bool) → is60 clock.rec ≡ sixty → seconds_in count + cond sixty 0 1 ≡ calendar_seconds → (step_of clock).answer ≡ refused 12
     go true sixty end = absurd (omega (arith, count_within clock.rec count counted))
     go false plain end =
         let p = placed clock.rec count counted in
@@ -133,18 +132,18 @@ pub step_makes_no_sixty : NoStepMakesASixty
 unfolding step_of
 step_makes_no_sixty clock = go (clock_second clock.rec) refl
   where
-    go : (outcome : Outcome Record) → clock_second clock.rec ≡ outcome → (stepped_by clock outcome).answer ≡ answer.Stepped
+    go : (outcome : Outcome Record) → clock_second clock.rec ≡ outcome → (stepped_by clock outcome).answer ≡ made
         → is60 (stepped_by clock outcome).clock.rec ≡ false
-    go (done next) is made = next_no_sixty clock.rec next (second_is_next clock.rec next is)
-    go (refused n) is made = let z : ◌≡◌ {A = ℕ} 0 1 = cc in absurd (omega arith)
+    go (done next) is e = next_no_sixty clock.rec next (second_is_next clock.rec next is)
+    go (refused n) is e = let z : ◌≡◌ {A = ℕ} 0 1 = cc in absurd (omega arith)
 
 -- one step more adds one second more, but the first from a second 60
 pub one_step_more : (n : ℕ) (clock : Clock) → EachIsMade n clock
     → seconds_of_steps n clock.rec + seconds_on (stepped n clock).rec ≡ seconds_of_steps (suc n) clock.rec
 unfolding stepped
-one_step_more zero clock made = omega arith
-one_step_more (suc n) clock made =
-    let plain = step_makes_no_sixty (stepped n clock) (made n (omega arith)) in
+one_step_more zero clock each = omega arith
+one_step_more (suc n) clock each =
+    let plain = step_makes_no_sixty (stepped n clock) (each n (omega arith)) in
     rw plain (omega arith)
 
 -- Any number of steps of a clock with a date that stays in the calendar.
@@ -163,10 +162,10 @@ module _ (clock : Clock) (count : Count) (counted : count_of clock.rec ≡ done 
       fewer zero = omega arith
       fewer (suc n) = omega arith
 
-      each : EachIsMade n clock → (step_of (stepped n clock)).answer ≡ answer.Stepped → EachIsMade (suc n) clock
+      each : EachIsMade n clock → (step_of (stepped n clock)).answer ≡ made → EachIsMade (suc n) clock
       each before here k below = go (ltb k n) refl
         where
-          go : (less : Bool) → ltb k n ≡ less → (step_of (stepped k clock)).answer ≡ answer.Stepped
+          go : (less : Bool) → ltb k n ≡ less → (step_of (stepped k clock)).answer ≡ made
           go true less = before k (ltb-true k n less)
           go false more = let same : k ≡ n = omega (arith, ltb-false k n more) in rw same here
 

@@ -15,9 +15,7 @@ use Rattle.record_rules.specs.declared.Record.TheVariants.{Dated, TimeOnly}
 use Rattle.record_rules.specs.Rule.{refusal_of, carries_date}
 use Rattle.record_rules.specs.Next.{record_after, is_last_of_calendar, next_second_of}
 use Rattle.clock.specs.declared.Clock.{Clock}
-use Rattle.clock.specs.declared.StepAnswer.TheVariants as answer
-use Rattle.clock.specs.Stepping.{clock_second, with_record, stepped_by, step_of}
-use Rattle.clock.specs.Answers.{step_answer}
+use Rattle.clock.specs.Stepping.{clock_second, with_record, made, stepped_by, step_of}
 use Rattle.clock.specs.Running.{ARefusedClockIsUnchanged}
 
 -- a clock's second is the record's next second
@@ -36,18 +34,18 @@ module _ (clock : Clock) where
   stepped_by_law outcome e = ap (stepped_by clock) (sym e)
 
   pub second_refused : (number : ℕ) → next_second_of clock.rec ≡ refused number
-      → record { clock = clock; answer = answer.Refused number } ≡ step_of clock
+      → record { clock = clock; answer = refused number } ≡ step_of clock
   unfolding clock_second
   second_refused number e = stepped_by_law (refused number) (rw e)
 
   pub no_date : (layout : TimeLayout) (time : Time) (next : Record) → clock.rec ≡ TimeOnly layout time
-      → next_second_of clock.rec ≡ done next → record { clock = clock; answer = answer.Refused 14 } ≡ step_of clock
+      → next_second_of clock.rec ≡ done next → record { clock = clock; answer = refused 14 } ≡ step_of clock
   unfolding clock_second unless
   no_date layout time next is e = stepped_by_law (refused 14) (rw (e, is))
 
   pub goes_on : (layout : DatedLayout) (status : Status) (weekday : ℕ) (date : Date) (time : Time) (next : Record)
       → clock.rec ≡ Dated layout status weekday date time → next_second_of clock.rec ≡ done next
-      → record { clock = with_record clock next; answer = answer.Stepped } ≡ step_of clock
+      → record { clock = with_record clock next; answer = made } ≡ step_of clock
   unfolding clock_second unless
   goes_on layout status weekday date time next is e = stepped_by_law (done next) (rw (e, is))
 
@@ -55,7 +53,7 @@ pub refused_is_unchanged : ARefusedClockIsUnchanged
 unfolding step_of
 refused_is_unchanged clock n = go (clock_second clock.rec)
   where
-    go : (outcome : Outcome Record) → step_answer (stepped_by clock outcome).answer ≡ refused n → (stepped_by clock outcome).clock ≡ clock
+    go : (outcome : Outcome Record) → (stepped_by clock outcome).answer ≡ refused n → (stepped_by clock outcome).clock ≡ clock
     go (done next) e = let z : ◌≡◌ {A = ℕ} 0 1 = cc in absurd (omega arith)
     go (refused k) e = refl
 
@@ -69,7 +67,7 @@ one_after_another (suc a) b rec = refl
 
 -- the number is the lowest that holds: 5 to 8 by the record's own rule, then 12, then 14
 pub lowest_first : (clock : Clock)
-    → step_answer (step_of clock).answer
+    → (step_of clock).answer
     ≡ unless (refusal_of clock.rec else 12 when is_last_of_calendar clock.rec else 14 when not (carries_date clock.rec)) tt
 unfolding step_of clock_second next_second_of
 lowest_first clock =
@@ -77,6 +75,6 @@ lowest_first clock =
     ∙ one_after_another (refusal_of clock.rec else 12 when is_last_of_calendar clock.rec) (14 when not (carries_date clock.rec)) (record_after clock.rec)
     ∙ ap (λ n. unless n tt) (sym (else_assoc (refusal_of clock.rec) (12 when is_last_of_calendar clock.rec) (14 when not (carries_date clock.rec))))
   where
-    told : (outcome : Outcome Record) → step_answer (stepped_by clock outcome).answer ≡ after outcome (λ _. done tt)
+    told : (outcome : Outcome Record) → (stepped_by clock outcome).answer ≡ after outcome (λ _. done tt)
     told (done next) = refl
     told (refused n) = refl

@@ -1,10 +1,11 @@
--- The promises of the clock leave nothing open: each gives the whole result, and what an answer means determines the answer. Assumes nothing.
-use mathlib.Core.Path.{◌≡◌, refl}
-use Rattle.refusals.proofs.Laws.{back, told_apart}
-use Rattle.clock.specs.Answers.{step_answer}
-use Rattle.clock.specs.declared.StepAnswer.{StepAnswer}
-use Rattle.clock.specs.declared.StepAnswer.TheVariants as answer
+-- What a step hands out leaves nothing open: what it means determines it. Assumes nothing.
+use mathlib.Core.Path.{◌≡◌, ap}
+use Rattle.refusals.proofs.NumberLaws.{outcome_told_apart}
+use Rattle.clock.specs.Answers.{in_numbers}
+use Rattle.clock.specs.declared.Stepped.{Stepped}
 
-pub step_told_apart : (a b : StepAnswer) → step_answer a ≡ step_answer b → a ≡ b
-step_told_apart =
-    told_apart step_answer (back (λ _. answer.Stepped) answer.Refused) elim [ answer.Stepped ↦ refl | answer.Refused n ↦ refl ]
+pub step_told_apart : (a b : Stepped) → in_numbers a ≡ in_numbers b → a ≡ b
+step_told_apart a b e =
+    let clock = ap (λ s. s.clock) e in
+    let answer = outcome_told_apart a.answer b.answer (ap (λ s. s.answer) e) in
+    λ i. record { clock = clock i; answer = answer i }

@@ -1,8 +1,7 @@
--- The answer of a step: for each of its cases, the paper's number, or that the step was made.
-use Rattle.refusals.specs.Refusals.{Outcome, done, refused}
-use Rattle.clock.specs.declared.StepAnswer.{StepAnswer}
-use Rattle.clock.specs.declared.StepAnswer.TheVariants as answer
+-- What a step hands out, in the paper's numbers.
+use Rattle.refusals.specs.Numbers.{outcome}
+use Rattle.clock.specs.declared.Stepped.{Stepped}
+use Rattle.clock.specs.Stepping.{Step}
 
-abbrev pub step_answer : StepAnswer → Outcome (Unit {0})
-step_answer answer.Stepped = done tt
-step_answer (answer.Refused number) = refused number
+abbrev pub in_numbers : Stepped → Step
+in_numbers stepped = record { clock = stepped.clock; answer = outcome stepped.answer }

@@ -14,37 +14,35 @@ use Rattle.record_rules.specs.Rule.{status_allowed, is60}
 use Rattle.record_rules.specs.Utc.{count_of, utc_seconds}
 use Rattle.record_rules.specs.Following.{seconds_on}
 use Rattle.clock.specs.declared.Clock.{Clock}
-use Rattle.clock.specs.declared.StepAnswer.TheVariants as answer
-use Rattle.clock.specs.Stepping.{step_of}
-use Rattle.clock.specs.Answers.{step_answer}
+use Rattle.clock.specs.Stepping.{made, step_of}
 
 -- "the station clock is stepped by one second": up to the calendar's last second the step is made, and adds one second to the count,
 -- but from a second 60 none, whose number its follower shares
 abbrev pub AStepAddsOneSecond : Type 0
 AStepAddsOneSecond =
     (clock : Clock) (count : Count) → count_of clock.rec ≡ done count → seconds_in count + seconds_on clock.rec < calendar_seconds
-    → ((step_of clock).answer ≡ answer.Stepped) × (count_of (step_of clock).clock.rec ≡ done (seconds_later (seconds_on clock.rec) count))
+    → ((step_of clock).answer ≡ made) × (count_of (step_of clock).clock.rec ≡ done (seconds_later (seconds_on clock.rec) count))
 
 -- "12 after 31.12.2079 23:59:59"
 abbrev pub TheLastSecondGives12 : Type 0
 TheLastSecondGives12 =
     (clock : Clock) (count : Count) → count_of clock.rec ≡ done count → seconds_in count + seconds_on clock.rec ≡ calendar_seconds
-    → (step_of clock).answer ≡ answer.Refused 12
+    → (step_of clock).answer ≡ refused 12
 
 -- "with 12 after 31.12.2079 23:59:60 too"
 abbrev pub TheLastSixtyGives12 : Type 0
 TheLastSixtyGives12 =
     (clock : Clock) (layout : DatedLayout) (status : Status) → status.utc ≡ true → status_allowed layout status ≡ true
-    → clock.rec ≡ Dated layout status 7 (date 2079 12 31) (time 23 59 60) → (step_of clock).answer ≡ answer.Refused 12
+    → clock.rec ≡ Dated layout status 7 (date 2079 12 31) (time 23 59 60) → (step_of clock).answer ≡ refused 12
 
 -- "neither makes a 60 by itself": a clock that a step has moved
 abbrev pub NoStepMakesASixty : Type 0
-NoStepMakesASixty = (clock : Clock) → (step_of clock).answer ≡ answer.Stepped → is60 (step_of clock).clock.rec ≡ false
+NoStepMakesASixty = (clock : Clock) → (step_of clock).answer ≡ made → is60 (step_of clock).clock.rec ≡ false
 
 -- "refused with 5 to 8, 12 or 14 it is unchanged"
 abbrev pub ARefusedClockIsUnchanged : Type 0
 ARefusedClockIsUnchanged =
-    (clock : Clock) (n : ℕ) → step_answer (step_of clock).answer ≡ refused n → (step_of clock).clock ≡ clock
+    (clock : Clock) (n : ℕ) → (step_of clock).answer ≡ refused n → (step_of clock).clock ≡ clock
 
 -- a clock that was stepped so many times
 unfoldable pub stepped : ℕ → Clock → Clock
@@ -53,7 +51,7 @@ stepped (suc n) clock = (step_of (stepped n clock)).clock
 
 -- so many steps, each of which is made
 abbrev pub EachIsMade : ℕ → Clock → Type 0
-EachIsMade n clock = (k : ℕ) → k < n → (step_of (stepped k clock)).answer ≡ answer.Stepped
+EachIsMade n clock = (k : ℕ) → k < n → (step_of (stepped k clock)).answer ≡ made
 
 -- how many seconds so many steps add: the first what its record goes on by, each other one, as no step makes a 60
 abbrev pub seconds_of_steps : ℕ → Record → ℕ

@@ -2,72 +2,68 @@
 #![tactic(auto)]
 
 ghost use Rattle.std.specs.Prelude.{◌≡◌};
-ghost use Rattle.clock.specs.Stepping.{step_of};
+ghost use Rattle.refusals.specs.Numbers.{outcome};
+ghost use Rattle.clock.specs.Stepping.{clock_second, step_of};
+ghost use Rattle.clock.specs.Answers.{in_numbers};
 
+use record::Record;
 use record::next::next_second;
-use record::{Record, RecordAnswer};
-use refusals::NO_DATE;
+use refusals::Refusal;
 
-#[derive(Clone, Copy)]
+#[derive(Clone, Copy, Debug, PartialEq, Eq)]
 pub struct Clock {
     pub rec: Record,
 }
 
-#[derive(Clone, Copy)]
-pub enum StepAnswer {
-    Stepped,
-    Refused(u8),
-}
-
 // The clock after a step, and what the step tells.
-#[derive(Clone, Copy)]
+#[derive(Clone, Copy, Debug, PartialEq, Eq)]
 pub struct Stepped {
     pub clock: Clock,
-    pub answer: StepAnswer,
+    pub answer: Result<(), Refusal>,
+}
+
+// The next second of a record that can be a clock's. The refusals of the next second are lower than 14, so they come first.
+fn clock_second(rec: Record) -> Result<Record, Refusal>
+    ensures { outcome result ≡ clock_second rec }
+{
+    let next = next_second(rec)?;
+    match rec {
+        Record::TimeOnly(_, _) => Err(Refusal::NoDate),
+        Record::Dated(_, _, _, _, _) => Ok(next),
+    }
 }
 
 impl Clock {
-    // A refused clock comes back as it was. The refusals of the next second are lower than 14, so they come first.
+    // A refused clock comes back as it was.
     pub fn step(self) -> Stepped
-        ensures { result ≡ step_of self }
+        ensures { in_numbers result ≡ step_of self }
     {
-        let rec = self.rec;
-        match next_second(rec) {
-            RecordAnswer::Refused(number) => Stepped {
-                clock: self,
-                answer: StepAnswer::Refused(number),
+        match clock_second(self.rec) {
+            Ok(next) => Stepped {
+                clock: Clock { rec: next },
+                answer: Ok(()),
             },
-            RecordAnswer::Good(next) => match rec {
-                Record::TimeOnly(_, _) => Stepped {
-                    clock: self,
-                    answer: StepAnswer::Refused(NO_DATE),
-                },
-                Record::Dated(_, _, _, _, _) => Stepped {
-                    clock: Clock { rec: next },
-                    answer: StepAnswer::Stepped,
-                },
+            Err(refusal) => Stepped {
+                clock: self,
+                answer: Err(refusal),
             },
         }
     }
 }
 
 // Steps the caller's own clock where it stands.
-pub fn step_in_place(clock: &mut Clock) -> StepAnswer
-    ensures { (clock.new ≡ (step_of clock.old).clock) × (result ≡ (step_of clock.old).answer) }
+pub fn step_in_place(clock: &mut Clock) -> Result<(), Refusal>
+    ensures { (clock.new ≡ (step_of clock.old).clock) × (outcome result ≡ (step_of clock.old).answer) }
 {
-    let stepped = Clock::step(*clock);
+    let stepped = clock.step();
     *clock = stepped.clock;
     stepped.answer
 }
 
 // The step in place for callers that hold the clock by value: it is lent for the step and handed back.
-pub fn in_place(clock: Clock) -> Stepped
-    ensures { result ≡ step_of clock }
+pub fn in_place(mut clock: Clock) -> Stepped
+    ensures { in_numbers result ≡ step_of clock }
 {
-    let mut own = clock;
-    let answer = step_in_place(&mut own);
-    Stepped {
-        clock: own,
-        answer: answer,
-    }
+    let answer = step_in_place(&mut clock);
+    Stepped { clock, answer }
 }

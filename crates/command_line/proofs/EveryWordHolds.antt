@@ -1,47 +1,27 @@
 -- Every word says what its bytes say, and the first that does not go with those before it is told. Assumes nothing.
-use mathlib.Core.Path.{◌≡◌, refl, ap, ap₂, ◌∙◌}
-use mathlib.Core.Bool.{Bool, true, false, ◌&&◌, and-false}
-use mathlib.Core.List.{List, [], ◌∷◌, ◌++◌}
-use Prim.Native.Nat.{ℕ, suc, ◌+◌, ◌≤◌}
-use native.Mathlib.Omega.{arith}
-use lib.Dec.{eqb}
-use lib.ListN.{length}
-use borrow.Author.Tests.{ne_eqb, eqb-true, lt-ltb, le-ltb}
+use Rattle.std.proofs.Common.{◌≡◌, ℕ, suc, ◌+◌, ◌≤◌, false, List, [], ◌∷◌, ◌++◌, length, Ok, Err, refl, ap, ap₂, sym, ◌∙◌, arith}
+use Rattle.std.proofs.Math.Bool.{and-false}
+use Rattle.std.specs.Str.{bytes_eq}
+use Rattle.std.proofs.lemmas.Bool.{false_from_ne_true, ne_eqb, lt-ltb, le-ltb}
+use Rattle.std.proofs.lemmas.Slice.Eq.{bytes_eq-Decides}
 use Rattle.command_line.specs.declared.Wanted.{Wanted}
 use Rattle.command_line.specs.declared.Wanted.TheVariants.{Line, Exchanged, Telegrams, Blocks}
 use Rattle.command_line.specs.declared.Source.{Source}
 use Rattle.command_line.specs.declared.Fault.TheVariants.{SecondListing}
-use Rattle.command_line.specs.declared.Asked.TheVariants.{Refused}
 use Rattle.command_line.specs.declared.Word.{Word}
 use Rattle.command_line.specs.declared.Word.TheVariants as word
-use Rattle.command_line.specs.Words.{is_same, is_option, other_word, word_of}
+use Rattle.command_line.specs.Words.{is_option, other_word, word_of}
 use Rattle.command_line.specs.Asking.{no_word, with_listing, with_meaning, with_words, asked_by, Settled}
 use Rattle.command_line.specs.Exactly.{Lists}
 use Rattle.command_line.specs.EveryWord.{NothingElseBehindTwoHyphens, IsNamed, AllOthersAreNames, Settles, TheFirstWrongWordIsTold}
 use Rattle.command_line.proofs.AskingHolds.{behind, stays}
 use Rattle.command_line.proofs.ExactlyHolds.{these_list}
 
-same_is : (word other : List ℕ) → is_same word other ≡ true → word ≡ other
-unfolding is_same
-same_is [] [] e = refl
-same_is [] (o ∷ others) e = let z : ◌≡◌ {A = ℕ} 0 1 = cc in absurd (omega arith)
-same_is (b ∷ bytes) [] e = let z : ◌≡◌ {A = ℕ} 0 1 = cc in absurd (omega arith)
-same_is (b ∷ bytes) (o ∷ others) e = go (eqb b o) refl (is_same bytes others) refl (same_is bytes others) e
-  where
-    go : (t : Bool) → eqb b o ≡ t → (u : Bool) → is_same bytes others ≡ u → (is_same bytes others ≡ true → bytes ≡ others) → (t && u) ≡ true → b ∷ bytes ≡ o ∷ others
-    go true is true are later e = ap₂ ◌∷◌ (eqb-true b o is) (later are)
-    go true is false are later e = let z : ◌≡◌ {A = ℕ} 0 1 = cc in absurd (omega arith)
-    go false is u are later e = let z : ◌≡◌ {A = ℕ} 0 1 = cc in absurd (omega arith)
-
-unlike : (word other : List ℕ) → (word ≡ other → ⊥) → is_same word other ≡ false
-unlike word other differ = go (is_same word other) refl
-  where
-    go : (t : Bool) → is_same word other ≡ t → t ≡ false
-    go true e = absurd (differ (same_is word other e))
-    go false e = refl
+unlike : (word other : List ℕ) → (word ≡ other → ⊥) → bytes_eq word other ≡ false
+unlike word other differ = false_from_ne_true _ (λ same. differ ((bytes_eq-Decides word other).0 same))
 
 pub nothing_else : NothingElseBehindTwoHyphens
-unfolding is_same is_option other_word word_of
+unfolding is_option other_word word_of
 nothing_else more none =
     rw (unlike more _ none.no_help, unlike more _ none.no_version, unlike more _ none.no_exchanged, unlike more _ none.no_verify, unlike more _ none.no_log)
 
@@ -53,20 +33,20 @@ named_so : (bytes : List ℕ) → word_of bytes ≡ other_word bytes → is_opti
 named_so bytes other no_option = (λ fits. other ∙ (named bytes no_option).0 fits, λ long. other ∙ (named bytes no_option).1 long)
 
 other_none : word_of [] ≡ other_word []
-unfolding is_same word_of
+unfolding word_of
 other_none = refl
 
 other_one : (first : ℕ) → word_of (first ∷ []) ≡ other_word (first ∷ [])
-unfolding is_same word_of
+unfolding word_of
 other_one first = rw and-false
 
 other_no_hyphen : (first second : ℕ) (more : List ℕ) → (first ≡ 0x2D → ⊥) → word_of (first ∷ second ∷ more) ≡ other_word (first ∷ second ∷ more)
-unfolding is_same word_of
+unfolding word_of
 other_no_hyphen first second more other = rw (ne_eqb first 0x2D other)
 
 other_one_hyphen : (second : ℕ) (more : List ℕ) → (second ≡ 0x2D → ⊥) → (second ∷ more ≡ 0x68 ∷ [] → ⊥)
     → word_of (0x2D ∷ second ∷ more) ≡ other_word (0x2D ∷ second ∷ more)
-unfolding is_same word_of
+unfolding word_of
 other_one_hyphen second more other no_h = rw (ne_eqb second 0x2D other, unlike (second ∷ more) (0x68 ∷ []) no_h)
 
 short_none : is_option [] ≡ false
@@ -75,15 +55,15 @@ short_none = refl
 
 short_one : (first : ℕ) → is_option (first ∷ []) ≡ false
 unfolding is_option
-short_one first = refl
+short_one first = rw and-false
 
 first_unlike : (first second : ℕ) (more : List ℕ) → (first ≡ 0x2D → ⊥) → is_option (first ∷ second ∷ more) ≡ false
 unfolding is_option
-first_unlike first second more other = rw (ne_eqb first 0x2D other)
+first_unlike first second more other = rw (ne_eqb 0x2D first (λ same. other (sym same)))
 
 second_unlike : (second : ℕ) (more : List ℕ) → (second ≡ 0x2D → ⊥) → is_option (0x2D ∷ second ∷ more) ≡ false
 unfolding is_option
-second_unlike second more other = rw (ne_eqb second 0x2D other)
+second_unlike second more other = rw (ne_eqb 0x2D second (λ same. other (sym same)))
 
 pub all_others : AllOthersAreNames
 all_others = (
@@ -100,15 +80,15 @@ module _ (words : List (List ℕ)) (wanted : Wanted) (source : Source) (lists : 
   unfolding asked_by
   told meaning is settled =
       let place : 1 + length words ≡ length words + 1 = omega arith in
-      behind no_word 1 words (next ∷ more)
-      ∙ ap₂ (λ asked n. with_words asked n (next ∷ more)) (these_list words wanted source lists) place
+      behind (Ok no_word) 1 words (next ∷ more)
+      ∙ ap₂ (λ so_far n. with_words so_far n (next ∷ more)) (these_list words wanted source lists) place
       ∙ ap (λ says. with_words (with_meaning wanted source (length words + 1) says) (suc (length words + 1)) more) is
       ∙ stays (with_meaning wanted source (length words + 1) meaning) (suc (length words + 1)) more settled
 
-  second : (other : Wanted) → (wanted ≡ Line → ⊥) → with_listing wanted source other ≡ Refused SecondListing
+  second : (other : Wanted) → (wanted ≡ Line → ⊥) → with_listing wanted source other ≡ Err SecondListing
   second other unlike_line = go wanted unlike_line
     where
-      go : (before : Wanted) → (before ≡ Line → ⊥) → with_listing before source other ≡ Refused SecondListing
+      go : (before : Wanted) → (before ≡ Line → ⊥) → with_listing before source other ≡ Err SecondListing
       go Line no_line = absurd (no_line refl)
       go Exchanged no_line = refl
       go Telegrams no_line = refl

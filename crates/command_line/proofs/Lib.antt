@@ -1,4 +1,3 @@
-pub mod WordLaws
 pub mod AskingHolds
 pub mod ExactlyHolds
 pub mod EveryWordHolds

@@ -1,16 +1,15 @@
 -- The words of the command line as they are typed, each with what it says, and lists of them with what they ask for.
-use Rattle.std.specs.Prelude.{◌≡◌, List, [], ◌∷◌, map, ℕ, replicate}
+use Rattle.std.specs.Prelude.{◌≡◌, List, [], ◌∷◌, map, ℕ, replicate, Ok, Err}
 use Prim.Native.String.{String}
 use Rattle.ascii.specs.Ascii.{ascii}
 use Rattle.command_line.specs.declared.Wanted.TheVariants.{Line, Exchanged, Telegrams, Blocks}
 use Rattle.command_line.specs.declared.Source.TheVariants.{Input, File}
 use Rattle.command_line.specs.declared.Fault.TheVariants.{NoSuchOption, LongName, SecondListing, SecondFile}
-use Rattle.command_line.specs.declared.Asked.{Asked}
-use Rattle.command_line.specs.declared.Asked.TheVariants.{Listing, Help, Version, Refused}
+use Rattle.command_line.specs.declared.Asked.TheVariants.{Listing, Help, Version}
 use Rattle.command_line.specs.declared.Word.{Word}
 use Rattle.command_line.specs.declared.Word.TheVariants as word
 use Rattle.command_line.specs.Words.{word_of}
-use Rattle.command_line.specs.Asking.{asked_by}
+use Rattle.command_line.specs.Asking.{Answer, asked_by}
 
 -- each option, byte by byte
 abbrev pub in_bytes : List (List ℕ × Word)
@@ -48,42 +47,42 @@ WordsAreAsPrinted =
 
 -- words, as they stand behind the program's name, and what they ask for
 infix 80 ◌ask_for◌
-abbrev pub ◌ask_for◌ : List String → Asked → List (List ℕ) × Asked
+abbrev pub ◌ask_for◌ : List String → Answer → List (List ℕ) × Answer
 ◌ask_for◌ texts asked = (map ascii texts, asked)
 
-abbrev pub lists : List (List (List ℕ) × Asked)
+abbrev pub lists : List (List (List ℕ) × Answer)
 lists =
     -- standard input
-    ([] ask_for Listing Line Input)
-    ∷ (("--exchanged" ∷ []) ask_for Listing Exchanged Input)
-    ∷ (("--verify" ∷ []) ask_for Listing Blocks Input)
-    ∷ (("--log" ∷ []) ask_for Listing Telegrams Input)
+    ([] ask_for Ok (Listing Line Input))
+    ∷ (("--exchanged" ∷ []) ask_for Ok (Listing Exchanged Input))
+    ∷ (("--verify" ∷ []) ask_for Ok (Listing Blocks Input))
+    ∷ (("--log" ∷ []) ask_for Ok (Listing Telegrams Input))
     -- a file, whose word is the first or the second
-    ∷ (("capture" ∷ []) ask_for Listing Line (File 1))
-    ∷ (("--exchanged" ∷ "capture" ∷ []) ask_for Listing Exchanged (File 2))
-    ∷ (("capture" ∷ "--exchanged" ∷ []) ask_for Listing Exchanged (File 1))
-    ∷ (("--verify" ∷ "log" ∷ []) ask_for Listing Blocks (File 2))
-    ∷ (("log" ∷ "--verify" ∷ []) ask_for Listing Blocks (File 1))
-    ∷ (("--log" ∷ "log" ∷ []) ask_for Listing Telegrams (File 2))
-    ∷ (("log" ∷ "--log" ∷ []) ask_for Listing Telegrams (File 1))
+    ∷ (("capture" ∷ []) ask_for Ok (Listing Line (File 1)))
+    ∷ (("--exchanged" ∷ "capture" ∷ []) ask_for Ok (Listing Exchanged (File 2)))
+    ∷ (("capture" ∷ "--exchanged" ∷ []) ask_for Ok (Listing Exchanged (File 1)))
+    ∷ (("--verify" ∷ "log" ∷ []) ask_for Ok (Listing Blocks (File 2)))
+    ∷ (("log" ∷ "--verify" ∷ []) ask_for Ok (Listing Blocks (File 1)))
+    ∷ (("--log" ∷ "log" ∷ []) ask_for Ok (Listing Telegrams (File 2)))
+    ∷ (("log" ∷ "--log" ∷ []) ask_for Ok (Listing Telegrams (File 1)))
     -- help and the version, whatever stands behind them, and behind what is right so far
-    ∷ (("--help" ∷ []) ask_for Help)
-    ∷ (("-h" ∷ []) ask_for Help)
-    ∷ (("--version" ∷ []) ask_for Version)
-    ∷ (("--help" ∷ "--version" ∷ []) ask_for Help)
-    ∷ (("--version" ∷ "--help" ∷ []) ask_for Version)
-    ∷ (("--help" ∷ "--no-such-option" ∷ []) ask_for Help)
-    ∷ (("--verify" ∷ "log" ∷ "-h" ∷ "another" ∷ []) ask_for Help)
+    ∷ (("--help" ∷ []) ask_for Ok Help)
+    ∷ (("-h" ∷ []) ask_for Ok Help)
+    ∷ (("--version" ∷ []) ask_for Ok Version)
+    ∷ (("--help" ∷ "--version" ∷ []) ask_for Ok Help)
+    ∷ (("--version" ∷ "--help" ∷ []) ask_for Ok Version)
+    ∷ (("--help" ∷ "--no-such-option" ∷ []) ask_for Ok Help)
+    ∷ (("--verify" ∷ "log" ∷ "-h" ∷ "another" ∷ []) ask_for Ok Help)
     -- the first thing that is wrong
-    ∷ (("--no-such-option" ∷ []) ask_for Refused (NoSuchOption 1))
-    ∷ (("capture" ∷ "--no-such-option" ∷ "--help" ∷ []) ask_for Refused (NoSuchOption 2))
-    ∷ (("--verify" ∷ "--log" ∷ []) ask_for Refused SecondListing)
-    ∷ (("--log" ∷ "--log" ∷ []) ask_for Refused SecondListing)
-    ∷ (("--exchanged" ∷ "capture" ∷ "--verify" ∷ []) ask_for Refused SecondListing)
-    ∷ (("one" ∷ "two" ∷ []) ask_for Refused SecondFile)
-    ∷ (("one" ∷ "--log" ∷ "two" ∷ "--no-such-option" ∷ []) ask_for Refused SecondFile)
+    ∷ (("--no-such-option" ∷ []) ask_for Err (NoSuchOption 1))
+    ∷ (("capture" ∷ "--no-such-option" ∷ "--help" ∷ []) ask_for Err (NoSuchOption 2))
+    ∷ (("--verify" ∷ "--log" ∷ []) ask_for Err SecondListing)
+    ∷ (("--log" ∷ "--log" ∷ []) ask_for Err SecondListing)
+    ∷ (("--exchanged" ∷ "capture" ∷ "--verify" ∷ []) ask_for Err SecondListing)
+    ∷ (("one" ∷ "two" ∷ []) ask_for Err SecondFile)
+    ∷ (("one" ∷ "--log" ∷ "two" ∷ "--no-such-option" ∷ []) ask_for Err SecondFile)
     -- a name that is too long
-    ∷ (ascii "--log" ∷ replicate 4096 0x78 ∷ [], Refused LongName)
+    ∷ (ascii "--log" ∷ replicate 4096 0x78 ∷ [], Err LongName)
     ∷ []
 
 abbrev pub ListsAreAsPrinted : Type 0

@@ -1,11 +1,11 @@
 -- What every word says, by its bytes alone, and what every list of words that asks for no listing is told.
-use Rattle.std.specs.Prelude.{◌≡◌, List, [], ◌∷◌, ◌++◌, ℕ, ◌+◌, ◌≤◌, length}
+use Rattle.std.specs.Prelude.{◌≡◌, List, [], ◌∷◌, ◌++◌, ℕ, ◌+◌, ◌≤◌, length, Ok, Err}
 use Rattle.command_line.specs.declared.Wanted.{Wanted}
 use Rattle.command_line.specs.declared.Wanted.TheVariants.{Line}
 use Rattle.command_line.specs.declared.Source.{Source}
 use Rattle.command_line.specs.declared.Source.TheVariants.{File}
 use Rattle.command_line.specs.declared.Fault.TheVariants.{NoSuchOption, LongName, SecondListing, SecondFile}
-use Rattle.command_line.specs.declared.Asked.TheVariants.{Help, Version, Refused}
+use Rattle.command_line.specs.declared.Asked.TheVariants.{Help, Version}
 use Rattle.command_line.specs.declared.Word.TheVariants as word
 use Rattle.command_line.specs.Words.{word_of}
 use Rattle.command_line.specs.Asking.{asked_by}
@@ -37,12 +37,12 @@ AllOthersAreNames =
 
 -- behind words that ask for a listing, a word that does not go with them settles what is asked for, whatever stands behind it
 pub record Settles (words : List (List ℕ)) (wanted : Wanted) (source : Source) (next : List ℕ) (more : List (List ℕ)) : Type 0 where
-  pub help : word_of next ≡ word.Help → asked_by (words ++ next ∷ more) ≡ Help
-  pub version : word_of next ≡ word.Version → asked_by (words ++ next ∷ more) ≡ Version
-  pub unknown : word_of next ≡ word.UnknownOption → asked_by (words ++ next ∷ more) ≡ Refused (NoSuchOption (length words + 1))
-  pub long : word_of next ≡ word.LongName → asked_by (words ++ next ∷ more) ≡ Refused LongName
-  pub file : (before : ℕ) → source ≡ File before → word_of next ≡ word.Name → asked_by (words ++ next ∷ more) ≡ Refused SecondFile
-  pub listing : (other : Wanted) → (wanted ≡ Line → ⊥) → word_of next ≡ word.Listing other → asked_by (words ++ next ∷ more) ≡ Refused SecondListing
+  pub help : word_of next ≡ word.Help → asked_by (words ++ next ∷ more) ≡ Ok Help
+  pub version : word_of next ≡ word.Version → asked_by (words ++ next ∷ more) ≡ Ok Version
+  pub unknown : word_of next ≡ word.UnknownOption → asked_by (words ++ next ∷ more) ≡ Err (NoSuchOption (length words + 1))
+  pub long : word_of next ≡ word.LongName → asked_by (words ++ next ∷ more) ≡ Err LongName
+  pub file : (before : ℕ) → source ≡ File before → word_of next ≡ word.Name → asked_by (words ++ next ∷ more) ≡ Err SecondFile
+  pub listing : (other : Wanted) → (wanted ≡ Line → ⊥) → word_of next ≡ word.Listing other → asked_by (words ++ next ∷ more) ≡ Err SecondListing
 
 abbrev pub TheFirstWrongWordIsTold : Type 0
 TheFirstWrongWordIsTold =

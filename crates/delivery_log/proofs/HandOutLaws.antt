@@ -1,49 +1,29 @@
 -- What reading back hands out, by what is located; and the number 0 beside it tells that it is a telegram. Assumes nothing.
-use mathlib.Core.Path.{◌≡◌, refl, ap, sym, ◌∙◌}
+use mathlib.Core.Path.{◌≡◌, refl, ap₂}
 use mathlib.Core.Bool.{not}
 use mathlib.Core.List.{List, [], ◌∷◌}
-use Prim.Native.Nat.{ℕ, zero, suc, ◌+◌, ◌-◌, ◌≤◌}
+use Prim.Native.Nat.{ℕ, zero, suc, ◌+◌, ◌-◌}
 use native.Mathlib.Omega.{arith}
-use lib.ListN.{length, take, drop}
+use lib.ListN.{take, drop}
 use denote.Ref.{Bor}
+use Rattle.std.specs.Prelude.{Ok}
 use Rattle.refusals.specs.Refusals.{◌when◌, Outcome, done, refused, unless, after}
 use Rattle.log_rules.specs.Good.{telegrams_of, is_good}
 use Rattle.log_rules.specs.Region.{blocks_of}
 use Rattle.log_rules.specs.ReadBack.{numbered, telegram_at, read_back_of}
-use Rattle.delivery_log.specs.declared.read_back.Located.{Located}
-use Rattle.delivery_log.specs.declared.read_back.Located.TheVariants.{At, Refused}
 use Rattle.delivery_log.specs.Located.{located_in, StandsIn}
-use Rattle.log_rules.specs.Answers.{telegram_place, number_of, bytes_of, begin_of, byte_at}
+use Rattle.log_rules.specs.Answers.{telegram_place, number_of, bytes_of, lent_at}
 use Rattle.log_rules.specs.OfTheLog.{TheNumber0TellsATelegram}
 use Rattle.log_rules.proofs.PartLaws.{part_lent}
 
--- what the promise of reading back says of a part's bytes, of where it begins and of the number beside it
-abbrev pub HandedOut : Outcome (List ℕ) → ℕ → Bor (List ℕ) → List ℕ → ℕ × ℕ → ℕ → Type 0
-HandedOut answer place region bytes begin number =
-    (number ≡ number_of answer) × (bytes ≡ bytes_of answer) × (begin ≡ byte_at region (begin_of answer place))
-
--- What is handed out, by what is located.
-module _ (region : Bor (List ℕ)) (block slot : ℕ) (r : Located)
-    (known : (located_in region.now r ≡ read_back_of region.now block slot) × StandsIn region.now block slot r) where
-  pub part_fits : (start size : ℕ) → r ≡ At start size → start + size ≤ length region.now
-  part_fits start size is = (rw is at known.1).1
-
-  pub telegram_out : (start size : ℕ) → r ≡ At start size
-      → HandedOut (read_back_of region.now block slot) (telegram_place block slot) region
-      (take (start + size - start) (drop start region.now)) (region.ref_ptr.0, start + region.ref_ptr.1) 0
-  telegram_out start size is =
-      let answer : read_back_of region.now block slot ≡ done (take size (drop start region.now)) =
-      sym known.0 ∙ ap (located_in region.now) is in
-      let place = (rw is at known.1).0 in
-      let behind : start + region.ref_ptr.1 ≡ region.ref_ptr.1 + telegram_place block slot = omega (arith, place) in
-      rw answer (refl, part_lent size start region.now, ap (λ offset. (region.ref_ptr.0, offset)) behind)
-
-  pub nothing_out : (number : ℕ) → r ≡ Refused number
-      → HandedOut (read_back_of region.now block slot) (telegram_place block slot) region [] region.ref_ptr number
-  nothing_out number is =
-      let answer : read_back_of region.now block slot ≡ refused number = sym known.0 ∙ ap (located_in region.now) is in
-      let none : region.ref_ptr.1 ≡ region.ref_ptr.1 + 0 = omega arith in
-      rw answer (refl, refl, ap (λ offset. (region.ref_ptr.0, offset)) none)
+-- a located part, handed out
+module _ (region : Bor (List ℕ)) (block slot start size : ℕ)
+    (known : (located_in region.now (Ok (start, size)) ≡ read_back_of region.now block slot) × StandsIn region.now block slot (Ok (start, size))) where
+  pub telegram_out : done (take (start + size - start) (drop start region.now), (region.ref_ptr.0, start + region.ref_ptr.1))
+      ≡ lent_at region (telegram_place block slot) (read_back_of region.now block slot)
+  telegram_out =
+      let behind : start + region.ref_ptr.1 ≡ region.ref_ptr.1 + telegram_place block slot = omega (arith, known.1.0) in
+      rw (← known.0) (ap₂ (λ bytes offset. done (bytes, (region.ref_ptr.0, offset))) (part_lent size start region.now) behind)
 
 -- No refusal has the number 0, so the 0 beside a part tells that it is a telegram.
 abbrev Told : {A : Type 0} → Outcome A → Type 0

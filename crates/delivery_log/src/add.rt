@@ -4,19 +4,18 @@ ghost use Rattle.refusals.specs.Refusals.{done};
 ghost use Rattle.log_rules.specs.Block.{slots, check_place, block_size, sealed};
 ghost use Rattle.log_rules.specs.Good.{count_in, reads_well, is_good};
 ghost use Rattle.log_rules.specs.Add.{place_at, place_in, entered, region_after, add_of};
-ghost use Rattle.log_rules.specs.Answers.{add_answer};
+ghost use Rattle.refusals.specs.Numbers.{outcome};
 ghost use Rattle.log_rules.specs.Tests.{or_else, place_with};
 
 use super::block::is_good;
 use super::check::check_of;
 use super::{BLOCK_SIZE, CHECK_PLACE, COUNT_PLACE, Place, SLOT_SIZE, SLOTS};
-pub use log_rules::add::AddAnswer;
-use record::RecordAnswer;
-use refusals::{NO_FREE_SLOT, NOT_WHOLE_BLOCKS};
+use refusals::Refusal;
+use telegram::read::read;
 
 // The place found so far, if any, with one block more: what was found before a used slot is a gap.
-fn place_with(found: AddAnswer, number: usize, block: &[u8]) -> AddAnswer
-    ensures { add_answer result ≡ place_with (add_answer found) number block.now }
+fn place_with(found: Result<Place, Refusal>, number: usize, block: &[u8]) -> Result<Place, Refusal>
+    ensures { outcome result ≡ place_with (outcome found) number block.now }
 {
     if !is_good(block) {
         return found;
@@ -26,43 +25,34 @@ fn place_with(found: AddAnswer, number: usize, block: &[u8]) -> AddAnswer
         return or_first(found, number);
     }
     if count < SLOTS {
-        return AddAnswer::Added(Place {
+        return Ok(Place {
             block: number,
             slot: count,
         });
     }
-    AddAnswer::Refused(NO_FREE_SLOT)
+    Err(Refusal::NoFreeSlot)
 }
 
 // The place found so far, else the first slot of an empty block.
-fn or_first(found: AddAnswer, number: usize) -> AddAnswer
-    ensures { add_answer result ≡ or_else (add_answer found) (done (place_at number 0)) }
+fn or_first(found: Result<Place, Refusal>, number: usize) -> Result<Place, Refusal>
+    ensures { outcome result ≡ or_else (outcome found) (done (place_at number 0)) }
 {
-    match found {
-        AddAnswer::Added(place) => AddAnswer::Added(place),
-        AddAnswer::Refused(_) => AddAnswer::Added(Place {
-            block: number,
-            slot: 0,
-        }),
-    }
+    found.or(Ok(Place {
+        block: number,
+        slot: 0,
+    }))
 }
 
 // The first free slot behind the last used one: 19, then 21.
-fn find_place(region: &[u8]) -> AddAnswer
-    ensures { add_answer result ≡ place_in region.now }
+fn find_place(region: &[u8]) -> Result<Place, Refusal>
+    ensures { outcome result ≡ place_in region.now }
 {
-    let length = region.len();
-    if length % BLOCK_SIZE != 0 {
-        return AddAnswer::Refused(NOT_WHOLE_BLOCKS);
+    if region.len() % BLOCK_SIZE != 0 {
+        return Err(Refusal::NotWholeBlocks);
     }
-    let blocks = length / BLOCK_SIZE;
-    let mut found = AddAnswer::Refused(NO_FREE_SLOT);
-    let mut at: usize = 0;
-    while at < blocks {
-        let start = BLOCK_SIZE * at;
-        let end = start + BLOCK_SIZE;
-        found = place_with(found, at, &region[start..end]);
-        at += 1;
+    let mut found = Err(Refusal::NoFreeSlot);
+    for (at, block) in region.chunks_exact(BLOCK_SIZE).enumerate() {
+        found = place_with(found, at, block);
     }
     found
 }
@@ -74,11 +64,7 @@ fn lay(slot: &mut [u8], telegram: &[u8])
 {
     let length = telegram.len();
     slot[0] = length as u8;
-    let mut at: usize = 0;
-    while at < length {
-        slot[at + 1] = telegram[at];
-        at += 1;
-    }
+    slot[1..=length].copy_from_slice(telegram);
 }
 
 // Stores the check of the bytes before it.
@@ -87,8 +73,7 @@ fn seal(block: &mut [u8])
     ensures { block.new ≡ sealed (take check_place block.old) }
 {
     let check = check_of(&block[..CHECK_PLACE]);
-    block[CHECK_PLACE] = (check % 256) as u8;
-    block[CHECK_PLACE + 1] = (check / 256) as u8;
+    block[CHECK_PLACE..].copy_from_slice(&check.to_le_bytes());
 }
 
 // Enters a telegram that reads well into the first free slot of a good block: its slot, the count and the check.
@@ -103,27 +88,21 @@ fn enter(block: &mut [u8], slot: usize, telegram: &[u8])
 }
 
 // Adds a telegram that reads well.
-fn add_good(region: &mut [u8], telegram: &[u8]) -> AddAnswer
+fn add_good(region: &mut [u8], telegram: &[u8]) -> Result<Place, Refusal>
     requires { reads_well telegram.now ≡ true }
-    ensures { (add_answer result ≡ place_in region.old) × (region.new ≡ region_after (place_in region.old) region.old telegram.now) }
+    ensures { (outcome result ≡ place_in region.old) × (region.new ≡ region_after (place_in region.old) region.old telegram.now) }
 {
-    match find_place(region) {
-        AddAnswer::Refused(number) => AddAnswer::Refused(number),
-        AddAnswer::Added(place) => {
-            let start = BLOCK_SIZE * place.block;
-            let end = start + BLOCK_SIZE;
-            enter(&mut region[start..end], place.slot, telegram);
-            AddAnswer::Added(place)
-        }
-    }
+    let place = find_place(region)?;
+    let start = BLOCK_SIZE * place.block;
+    let end = start + BLOCK_SIZE;
+    enter(&mut region[start..end], place.slot, telegram);
+    Ok(place)
 }
 
 // Adds a telegram with control characters: its own refusal, then 19, then 21. A refused add leaves every byte of the region as it was.
-pub fn add(region: &mut [u8], telegram: &[u8]) -> AddAnswer
-    ensures { add_of region.old telegram.now ≡ (add_answer result, region.new) }
+pub fn add(region: &mut [u8], telegram: &[u8]) -> Result<Place, Refusal>
+    ensures { add_of region.old telegram.now ≡ (outcome result, region.new) }
 {
-    match telegram::read::read(telegram, true) {
-        RecordAnswer::Refused(number) => AddAnswer::Refused(number),
-        RecordAnswer::Good(_) => add_good(region, telegram),
-    }
+    read(telegram, true)?;
+    add_good(region, telegram)
 }

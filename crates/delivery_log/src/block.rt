@@ -6,18 +6,14 @@ ghost use Rattle.log_rules.specs.Tests.{all_zero, slot_fits, slots_fit, check_fi
 
 use super::check::check_of;
 use super::{BLOCK_SIZE, CHECK_PLACE, COUNT_PLACE, SLOT_SIZE, SLOTS};
-use record::RecordAnswer;
 
 fn is_zero(bytes: &[u8]) -> bool
     ensures { result ≡ all_zero bytes.now }
 {
-    let length = bytes.len();
-    let mut at: usize = 0;
-    while at < length {
-        if bytes[at] != 0 {
+    for byte in bytes {
+        if *byte != 0 {
             return false;
         }
-        at += 1;
     }
     true
 }
@@ -25,10 +21,7 @@ fn is_zero(bytes: &[u8]) -> bool
 fn reads_well(telegram: &[u8]) -> bool
     ensures { result ≡ reads_well telegram.now }
 {
-    match telegram::read::read(telegram, true) {
-        RecordAnswer::Good(_) => true,
-        RecordAnswer::Refused(_) => false,
-    }
+    telegram::read::read(telegram, true).is_ok()
 }
 
 // A used slot: a length byte, a telegram that reads well, zeros.
@@ -54,16 +47,7 @@ fn slots_fit(block: &[u8], count: usize) -> bool
     requires { slot_size * count ≤ length block.now }
     ensures { result ≡ slots_fit count block.now }
 {
-    let mut at: usize = 0;
-    while at < count {
-        let start = SLOT_SIZE * at;
-        let end = start + SLOT_SIZE;
-        if !slot_fits(&block[start..end]) {
-            return false;
-        }
-        at += 1;
-    }
-    true
+    block.chunks_exact(SLOT_SIZE).take(count).all(slot_fits)
 }
 
 // Whether the stored check is the one of the bytes before it.
@@ -71,11 +55,8 @@ fn check_fits(block: &[u8]) -> bool
     requires { length block.now ≡ block_size }
     ensures { result ≡ check_fits block.now }
 {
-    let check = check_of(&block[..CHECK_PLACE]);
-    if block[CHECK_PLACE] as u32 != check % 256 {
-        return false;
-    }
-    block[CHECK_PLACE + 1] as u32 == check / 256
+    let stored = u16::from_le_bytes([block[CHECK_PLACE], block[CHECK_PLACE + 1]]);
+    stored == check_of(&block[..CHECK_PLACE])
 }
 
 // Whether these bytes are the block that its telegrams make: at most 15, each accepted with control characters.

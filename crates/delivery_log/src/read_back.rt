@@ -2,55 +2,39 @@
 ghost use Rattle.std.specs.Prelude.{◌≡◌};
 ghost use Rattle.log_rules.specs.ReadBack.{read_back_of};
 ghost use Rattle.delivery_log.specs.Located.{located_in, StandsIn};
-ghost use Rattle.log_rules.specs.Answers.{telegram_place, number_of, bytes_of, begin_of, byte_at};
+ghost use Rattle.log_rules.specs.Answers.{lent_as, lent_at, telegram_place};
 
 use super::block::is_good;
 use super::{BLOCK_SIZE, COUNT_PLACE, SLOT_SIZE};
-use refusals::{BLOCK_BAD, NO_SUCH_TELEGRAM, NONE, NOT_WHOLE_BLOCKS};
+use refusals::Refusal;
 
-// Where a telegram's bytes begin in the region and how many they are, or the number that refuses it.
-#[derive(Clone, Copy)]
-enum Located {
-    At(usize, usize),
-    Refused(u8),
-}
-
-fn locate(region: &[u8], block: usize, slot: usize) -> Located
+// Where a telegram's bytes begin in the region, and how many they are.
+fn locate(region: &[u8], block: usize, slot: usize) -> Result<(usize, usize), Refusal>
     ensures { (located_in region.now result ≡ read_back_of region.now block slot) × StandsIn region.now block slot result }
 {
     let length = region.len();
     if length % BLOCK_SIZE != 0 {
-        return Located::Refused(NOT_WHOLE_BLOCKS);
+        return Err(Refusal::NotWholeBlocks);
     }
     if block >= length / BLOCK_SIZE {
-        return Located::Refused(NO_SUCH_TELEGRAM);
+        return Err(Refusal::NoSuchTelegram);
     }
     let start = BLOCK_SIZE * block;
     let end = start + BLOCK_SIZE;
     if !is_good(&region[start..end]) {
-        return Located::Refused(BLOCK_BAD);
+        return Err(Refusal::BlockBad);
     }
     if slot >= region[start + COUNT_PLACE] as usize {
-        return Located::Refused(NO_SUCH_TELEGRAM);
+        return Err(Refusal::NoSuchTelegram);
     }
     let at = start + SLOT_SIZE * slot;
-    Located::At(at + 1, region[at] as usize)
+    Ok((at + 1, region[at] as usize))
 }
 
-// Hands out the telegram's own bytes: a part of the region and no copy. What is refused hands out an empty part, and its number
-// in `number`, which is 0 where a telegram is handed out.
-pub fn read_back<'a>(region: &'a [u8], block: usize, slot: usize, number: &mut u8) -> &'a [u8]
-    ensures { (number.new ≡ number_of (read_back_of region.now block slot)) × (result.now ≡ bytes_of (read_back_of region.now block slot)) × (result.ref_ptr ≡ byte_at region.entry (begin_of (read_back_of region.now block slot) (telegram_place block slot))) }
+// Hands out the telegram's own bytes: a part of the region and no copy.
+pub fn read_back(region: &[u8], block: usize, slot: usize) -> Result<&[u8], Refusal>
+    ensures { lent_as result ≡ lent_at region.entry (telegram_place block slot) (read_back_of region.now block slot) }
 {
-    match locate(region, block, slot) {
-        Located::At(start, size) => {
-            *number = NONE;
-            let end = start + size;
-            &region[start..end]
-        }
-        Located::Refused(refusal) => {
-            *number = refusal;
-            &region[..0]
-        }
-    }
+    let (start, size) = locate(region, block, slot)?;
+    Ok(&region[start..start + size])
 }

@@ -9,10 +9,9 @@ use lib.ListN.{length, take, drop, length-drop, take-append-drop}
 use borrow.Author.Tests.{ltb-true, ltb-false, leb-true, leb-false, le-leb, lt-leb}
 use Rattle.refusals.specs.Refusals.{◌when◌, ◌else◌, Outcome, done, refused, unless, after}
 use Rattle.refusals.proofs.Laws.{else_assoc}
-use Rattle.lent_buffer.specs.declared.Ending.{Ending}
-use Rattle.lent_buffer.specs.declared.Ending.TheVariants as ending
+use Rattle.lent_buffer.specs.Endings.{Ending, ending_answer}
+use Rattle.lent_buffer.specs.Endings as ending
 use Rattle.lent_buffer.specs.Laying.{size_of, laid}
-use Rattle.lent_buffer.specs.Answers.{ending_answer}
 use Rattle.lent_buffer.proofs.LayingLaws.{laid_answer, stops, refused_is_untouched}
 use Rattle.calendar_rules.specs.Ranges.{inside}
 use Rattle.calendar_rules.specs.Calendar.{date_in_range, day_exists, date_refusal, month_in_range, month_length, day_of, date_at, day_after, is_last_day, day_number, date_of, next_day}
@@ -29,13 +28,11 @@ use Rattle.layouts_rules.specs.declared.Layout.{Layout}
 use Rattle.layouts_rules.specs.Layouts.{layout_of}
 use Rattle.telegram_rules.specs.declared.write.Choice.{Choice}
 use Rattle.telegram_rules.specs.declared.write.Choice.TheVariants.{Named, NamedIn, Unnamed}
-use Rattle.telegram.specs.declared.several.Several.{Several}
 use Rattle.telegram_rules.specs.Reading.{body_in, carried, read_in}
-use Rattle.telegram.specs.SeveralTelegrams.{several_after}
+use Rattle.telegram.specs.SeveralTelegrams.{Several, several_after}
 use Rattle.telegram_rules.specs.Writing.{telegram_for, written}
 use Rattle.telegram.proofs.SeveralLaws.{one_more, ended_before, one_more_law}
 use Rattle.clock.specs.Stepping.{step_of}
-use Rattle.clock.specs.Answers.{step_answer}
 use Rattle.clock.proofs.StepLaws.{refused_is_unchanged}
 use Rattle.board_rules.specs.Switches.{switch, byte_of}
 use Rattle.board_rules.specs.Of6036.{offered, switches_for, byte_for}
@@ -136,7 +133,7 @@ demand_1_no_byte_of_several choice several rec buffer n is = go several.ending r
 
     laid_in : (answer : Outcome ℕ) (last : List ℕ) → laid (telegram_for choice rec) tail ≡ (answer, last) → (one_more several answer).ending ≡ ending.Refused n
         → take several.used buffer ++ last ≡ buffer
-    laid_in (done k) last told e = let z : ◌≡◌ {A = ℕ} 0 1 = cc in absurd (omega arith)
+    laid_in (done k) last told e = cc
     laid_in (refused k) last told e =
         ap (◌++◌ (take several.used buffer)) (stops (telegram_for choice rec) tail k last told).1 ∙ take-append-drop several.used buffer
 
@@ -176,7 +173,7 @@ demand_1_utc rec = refuses with_date (utc_seconds rec) (utc_rules rec) (utc_rule
 
 pub demand_1_step : TheStepRefuses
 demand_1_step clock =
-    refuses with_date (step_answer (step_of clock).answer) (step_rules clock.rec) (step_rules_law clock) (twelve_and_fourteen clock.rec _ _)
+    refuses with_date (step_of clock).answer (step_rules clock.rec) (step_rules_law clock) (twelve_and_fourteen clock.rec _ _)
 
 pub demand_1_clock_unchanged : ARefusedClockComesBackUnchanged
 demand_1_clock_unchanged = refused_is_unchanged

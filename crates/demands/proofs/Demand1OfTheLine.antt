@@ -19,8 +19,7 @@ use Rattle.trailer_rules.specs.declared.Order.{Order}
 use Rattle.telegram_rules.specs.Reading.{body_in, carried, read_in}
 use Rattle.telegram_rules.proofs.Frames.{frame_is_framed}
 use Rattle.line.specs.declared.Reader.{Reader}
-use Rattle.line.specs.declared.Fed.{Fed}
-use Rattle.line.specs.Readers.{line_of, reader_of, fed_for, well_formed, feed_reader_at, end_reader_at}
+use Rattle.line.specs.Readers.{line_of, reader_of, fed_for, well_formed, feed_reader_at, end_reader_at, Fed}
 use Rattle.line_rules.specs.Line.{places, Line, Told, nothing, event, Feeding, told_by, told_by_end, step, start_of, all_plain, is_started, stop_or, feed_of, heard_for}
 use Rattle.line.specs.Pieces.{Passing, pass_on, passing}
 use Rattle.line.proofs.ReaderLaws.{well, feed_refused, end_refused}
@@ -45,7 +44,7 @@ heard numbers (event (refused n) size) at e = e
 
 -- what reading refuses with, the line does too
 among_more : (numbers more : List ℕ) (n : ℕ) → among numbers n ≡ true → among (numbers ++ more) n ≡ true
-among_more [] more n e = let z : ◌≡◌ {A = ℕ} 0 1 = cc in absurd (omega arith)
+among_more [] more n e = cc
 among_more (first ∷ others) more n e = go (eqb n first) e (among_more others more n)
   where
     go : (t : Bool) → (t || among others n) ≡ true → (among others n ≡ true → among (others ++ more) n ≡ true) → (t || among (others ++ more) n) ≡ true
@@ -103,11 +102,11 @@ byte_tells order (first ∷ held) byte started = go (eqb byte etx) (eqb byte stx
     whole : read_in order true ((first ∷ held) ++ 3 ∷ []) done_or in_frame
     whole = subst⁻¹ (λ byte. read_in order true (byte ∷ held ++ 3 ∷ []) done_or in_frame) (eqb-true first 2 (both (eqb first 2) (all_plain held) started).0) (judged order held)
 
-    go : (etx stx full : Bool)
+    go : (is_etx is_stx full : Bool)
         → Tells on_the_line
-        (cond etx (event (read_in order true ((first ∷ held) ++ 3 ∷ [])) (length (first ∷ held) + 1))
-        (cond stx (event (refused 9) (length (first ∷ held))) (cond full (event (refused 10) (places + 1)) nothing)))
-    go true stx full = judged_so (read_in order true ((first ∷ held) ++ 3 ∷ [])) whole
+        (cond is_etx (event (read_in order true ((first ∷ held) ++ 3 ∷ [])) (length (first ∷ held) + 1))
+        (cond is_stx (event (refused 9) (length (first ∷ held))) (cond full (event (refused 10) (places + 1)) nothing)))
+    go true is_stx full = judged_so (read_in order true ((first ∷ held) ++ 3 ∷ [])) whole
     go false true full = refl
     go false false true = refl
     go false false false = tt

@@ -6,13 +6,12 @@ use Prim.Native.Nat.{ℕ, zero, suc}
 use lib.Dec.{ltb}
 use lib.ListN.{length}
 use Rattle.refusals.specs.Refusals.{◌when◌, Outcome, done, refused, unless, after}
-use Rattle.lent_buffer.specs.declared.Ending.TheVariants as ending
+use Rattle.lent_buffer.specs.Endings as ending
 use Rattle.lent_buffer.specs.Laying.{size_of, laid}
 use Rattle.lent_buffer.specs.OneBehindAnother.{ending_in}
 use Rattle.lent_buffer.proofs.LayingLaws.{within_unless, within_refused, laid_answer, refused_is_untouched}
+use Rattle.record_rules.specs.declared.Record.{Record}
 use Rattle.record_rules.specs.declared.Record.TheVariants.{Dated, TimeOnly}
-use Rattle.record_rules.specs.declared.RecordAnswer.{RecordAnswer}
-use Rattle.record_rules.specs.declared.RecordAnswer.TheVariants as answer
 use Rattle.record_rules.specs.Rule.{refusal_of}
 use Rattle.line.specs.Readers.{well_formed, line_of}
 use Rattle.line_rules.specs.Line.{Line}
@@ -60,17 +59,17 @@ demand_1_header buffer = room_holds header_row buffer
 pub demand_1_stray_line : TheStrayLineRefuses
 demand_1_stray_line stray buffer = room_holds (stray_row stray) buffer
 
-row_rules_law : (start : ℕ) (told : RecordAnswer) (buffer : List ℕ) → (laid (event_row start told) buffer).0 by_first row_rules start told (length buffer)
-row_rules_law start (answer.Good rec) buffer =
-    ap (λ o. after o (λ v. done tt)) (answer_so (event_row start (answer.Good rec)) buffer)
+row_rules_law : (start : ℕ) (told : Outcome Record) (buffer : List ℕ) → (laid (event_row start told) buffer).0 by_first row_rules start told (length buffer)
+row_rules_law start (done rec) buffer =
+    ap (λ o. after o (λ v. done tt)) (answer_so (event_row start (done rec)) buffer)
     ∙ then_by (refusal_of rec) (record_row start rec) (sized buffer) (record_rules rec) _ (record_rules_law rec) (room_rule (record_row start rec) buffer)
-row_rules_law start (answer.Refused number) buffer =
+row_rules_law start (refused number) buffer =
     ap (λ o. after o (λ v. done tt)) (answer_so (done (refused_row start number)) buffer) ∙ room_rule (refused_row start number) buffer
 
-row_tested : (start : ℕ) (told : RecordAnswer) (room : ℕ) → tested (5 ∷ 6 ∷ 7 ∷ 8 ∷ 13 ∷ []) (row_rules start told room) ≡ true
-row_tested start (answer.Good (Dated layout status weekday date time)) room = refl
-row_tested start (answer.Good (TimeOnly layout time)) room = refl
-row_tested start (answer.Refused number) room = refl
+row_tested : (start : ℕ) (told : Outcome Record) (room : ℕ) → tested (5 ∷ 6 ∷ 7 ∷ 8 ∷ 13 ∷ []) (row_rules start told room) ≡ true
+row_tested start (done (Dated layout status weekday date time)) room = refl
+row_tested start (done (TimeOnly layout time)) room = refl
+row_tested start (refused number) room = refl
 
 pub demand_1_row : ARowRefuses
 demand_1_row start told buffer =

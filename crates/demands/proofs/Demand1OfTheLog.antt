@@ -10,11 +10,10 @@ use borrow.Author.Tests.{ltb-true, lt-ltb}
 use Rattle.refusals.specs.Refusals.{◌when◌, Outcome, done, refused, unless, after}
 use Rattle.telegram_rules.specs.Reading.{read_of}
 use Rattle.trailer_rules.specs.declared.Order.TheVariants.{AsPrinted}
-use Rattle.log_rules.specs.declared.verify.Verified.TheVariants.{Bad}
+use Rattle.log_rules.specs.Verify.{Bad, first_bad, verified_by, verify_of}
 use Rattle.log_rules.specs.Block.{slots}
 use Rattle.log_rules.specs.Good.{count_in, telegrams_of, is_good}
 use Rattle.log_rules.specs.Region.{is_whole, blocks_in, whole_blocks, blocks_of, block_at}
-use Rattle.log_rules.specs.Verify.{first_bad, verified_by, verify_of}
 use Rattle.log_rules.specs.Add.{place_at, first_free, some_used, free_behind_used, place_in, place_for, add_of}
 use Rattle.log_rules.specs.ReadBack.{numbered, telegram_at, read_back_of}
 use Rattle.log_rules.proofs.BlockLaws.{count_telegrams}

@@ -83,7 +83,7 @@ demand_2_accepts_exactly order control bytes = (
 judged_itself : (n : ℕ) (rec same : Record) → unless n rec ≡ done same → unless n rec ≡ done rec
 unfolding unless
 judged_itself zero rec same e = refl
-judged_itself (suc n) rec same e = let z : ◌≡◌ {A = ℕ} 0 1 = cc in absurd (omega arith)
+judged_itself (suc n) rec same e = cc
 
 pub demand_2_reads_back : WhatIsWrittenReadsBack
 demand_2_reads_back order control rec room bytes e =
@@ -94,7 +94,7 @@ demand_2_reads_back order control rec room bytes e =
 pub made_itself : (n : ℕ) (rec same : Record) → after (unless n rec) as6021 ≡ done same → after (unless n rec) as6021 ≡ as6021 rec
 unfolding unless
 made_itself zero rec same e = refl
-made_itself (suc n) rec same e = let z : ◌≡◌ {A = ℕ} 0 1 = cc in absurd (omega arith)
+made_itself (suc n) rec same e = cc
 
 pub demand_2_unnamed_reads_back : WhatIsWrittenWithoutASettingReadsBack
 demand_2_unnamed_reads_back rec room bytes e =

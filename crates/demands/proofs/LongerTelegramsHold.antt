@@ -68,7 +68,7 @@ no_judgement order bytes size other ten = go (read_in order true bytes) refl (ap
 one_more : (low high : ℕ) → low < high → (order : Order) (held : List ℕ) (byte size : ℕ) → length held ≤ low
     → told_by_at low order held byte ≡ event (refused 10) size
     → (length held ≡ low) × (told_by_at high order held byte ≡ nothing) × (held_after_at high held byte ≡ held ++ byte ∷ []) × (size ≡ low + 1)
-one_more low high within order [] byte size fits ten = let z : ◌≡◌ {A = ℕ} 0 1 = cc in absurd (omega arith)
+one_more low high within order [] byte size fits ten = cc
 one_more low high within order (first ∷ held) byte size fits ten =
     by_tests (eqb byte etx) (eqb byte stx) (leb low (length all)) (leb high (length all)) refl refl ten
   where
@@ -85,8 +85,8 @@ one_more low high within order (first ∷ held) byte size fits ten =
         × (cond is_etx [] (cond is_stx (stx ∷ []) (cond is_full' [] (all ++ byte ∷ []))) ≡ all ++ byte ∷ [])
         × (size ≡ low + 1)
     by_tests true is_stx is_full_law is_full' l h ten = absurd (no_judgement order (all ++ etx ∷ []) (length all + 1) size ten)
-    by_tests false true is_full_law is_full' l h ten = let z : ◌≡◌ {A = ℕ} 0 1 = cc in absurd (omega arith)
-    by_tests false false false is_full' l h ten = let z : ◌≡◌ {A = ℕ} 0 1 = cc in absurd (omega arith)
+    by_tests false true is_full_law is_full' l h ten = cc
+    by_tests false false false is_full' l h ten = cc
     by_tests false false true true l h ten = absurd (omega (arith, leb-true high (length all) h))
     by_tests false false true false l h ten = (omega (arith, leb-true low (length all) l), refl, refl, sym (ap size_told ten))
 

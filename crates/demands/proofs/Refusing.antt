@@ -70,8 +70,8 @@ after_by {A} first next rules later by on =
     go : (o : Outcome A) (k : ℕ) → first ≡ o → after o (λ v. done tt) ≡ unless {A = Unit {0}} k tt
         → after (after o next) (λ v. done tt) ≡ unless {A = Unit {0}} (k else first_of later) tt
     go (done value) zero is e = on value is
-    go (done value) (suc k) is e = let z : ◌≡◌ {A = ℕ} 0 1 = cc in absurd (omega arith)
-    go (refused n) zero is e = let z : ◌≡◌ {A = ℕ} 0 1 = cc in absurd (omega arith)
+    go (done value) (suc k) is e = cc
+    go (refused n) zero is e = cc
     go (refused n) (suc k) is e = e
 
 -- the same behind a number

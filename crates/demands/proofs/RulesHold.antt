@@ -3,7 +3,6 @@ use mathlib.Core.Path.{◌≡◌, refl, ap, sym, ◌∙◌}
 use mathlib.Core.Bool.{Bool, true, false, cond, not, ◌&&◌, ◌||◌, and-false}
 use mathlib.Core.List.{List, [], ◌∷◌, ◌++◌, map, append_assoc}
 use Prim.Native.Nat.{ℕ, ◌+◌, ◌*◌}
-use native.Mathlib.Omega.{arith}
 use lib.Dec.{ltb}
 use lib.ListN.{length}
 use Rattle.refusals.specs.Refusals.{◌when◌, ◌else◌, Outcome, done, refused, unless, after}
@@ -33,7 +32,6 @@ use Rattle.telegram_rules.specs.Reading.{body_in, framed, carried, body_refusal,
 use Rattle.telegram_rules.specs.Writing.{telegram_in, as6021, judged_of, record_by, record_to_write, control_of, order_of, telegram_for, written}
 use Rattle.clock.specs.declared.Clock.{Clock}
 use Rattle.clock.specs.Stepping.{step_of}
-use Rattle.clock.specs.Answers.{step_answer}
 use Rattle.clock.proofs.StepLaws.{lowest_first}
 use Rattle.demands.specs.Lengths.{seven_layouts, length_of}
 use Rattle.demands.specs.Numbers.{Rule, ◌given_when◌, among, first_of, ◌by_first◌}
@@ -96,7 +94,7 @@ reading_rules_law order control bytes =
         → ((layout : Layout) → next layout by_first rules_in order control bytes (done layout))
         → after o next by_first 1 given_when wrong ∷ rules_in order control bytes o
     go next (done layout) false e on = on layout
-    go next (done layout) true e on = let z : ◌≡◌ {A = ℕ} 0 1 = cc in absurd (omega arith)
+    go next (done layout) true e on = cc
     go next (refused n) wrong e on = e
 
 -- writing
@@ -200,7 +198,7 @@ utc_rules_law (Dated layout status weekday date time) =
 utc_rules_law (TimeOnly layout time) =
     no_date (not (time_in_range time || sixty_behind59 time)) (is_sixty time && false || false) (rw (and-false (is_sixty time)))
 
-pub step_rules_law : (clock : Clock) → step_answer (step_of clock).answer by_first step_rules clock.rec
+pub step_rules_law : (clock : Clock) → (step_of clock).answer by_first step_rules clock.rec
 step_rules_law clock =
     let last = 12 when is_last_of_calendar clock.rec in
     let dateless = 14 when not (carries_date clock.rec) in

@@ -11,17 +11,14 @@ use Rattle.calendar_rules.specs.TimeOfDay.{time_in_range}
 use Rattle.record_rules.specs.declared.TimeLayout.TheVariants.{T6021}
 use Rattle.record_rules.specs.declared.Record.{Record}
 use Rattle.record_rules.specs.declared.Record.TheVariants.{Dated, TimeOnly}
-use Rattle.record_rules.specs.declared.RecordAnswer.TheVariants as answer
 use Rattle.record_rules.specs.Rule.{time_alone_allowed, time_alone_refusal, refusal_of}
 use Rattle.layouts_rules.specs.Layouts.{places_of, layout_of}
 use Rattle.trailer_rules.specs.declared.Order.TheVariants.{AsPrinted}
 use Rattle.telegram_rules.specs.Reading.{carried, body_refusal, read_in}
 use Rattle.telegram_rules.specs.Writing.{body_bytes, telegram_of}
 use Rattle.line.specs.declared.Reader.{Reader}
-use Rattle.line.specs.declared.Fed.{Fed}
-use Rattle.line_rules.specs.declared.Heard.{Heard}
-use Rattle.line_rules.specs.declared.Heard.TheVariants.{Nothing, Event, Refused}
-use Rattle.line.specs.Readers.{reader_of, fresh_reader, well_formed_at, feed_reader, feed_reader_at}
+use Rattle.line_rules.specs.Hearing.{Heard, Nothing, Event, Refused}
+use Rattle.line.specs.Readers.{reader_of, fresh_reader, well_formed_at, feed_reader, feed_reader_at, Fed}
 use Rattle.line_rules.specs.Line.{line_with}
 use Rattle.line_rules.specs.Events.{heard_then}
 use Rattle.line.specs.Cuts.{feeding, Served, AllUsedUp}
@@ -49,7 +46,7 @@ unfolding body_bytes places_of render code_character
 written_so = refl
 
 abbrev heard_it : Fed
-heard_it = record { reader = reader_of (line_with [] 10 0 AsPrinted); taken = 10; heard = Event (answer.Good early) 0 10 }
+heard_it = record { reader = reader_of (line_with [] 10 0 AsPrinted); taken = 10; heard = Event (done early) 0 10 }
 
 heard_so : feed_reader fresh_reader its_bytes ≡ heard_it
 unfolding unless is_decimal is_capital code_value time_in_range time_alone_allowed time_alone_refusal places_of layout_of carried body_refusal read_in feed_reader_at well_formed_at
@@ -65,14 +62,14 @@ in_one = record { piece = its_bytes; times = 1 } ∷ []
 line_so : its_bytes ≡ bytes_sent AsPrinted sent []
 line_so = sym (ap (λ bytes. bytes ++ []) written_so)
 
-events_so : events_sent AsPrinted 0 sent ≡ Event (answer.Good early) 0 10 ∷ []
-events_so = λ i. Event (answer.Good early) 0 (length (written_so i)) ∷ []
+events_so : events_sent AsPrinted 0 sent ≡ Event (done early) 0 10 ∷ []
+events_so = λ i. Event (done early) 0 (length (written_so i)) ∷ []
 
 module _ (feed : Reader → List ℕ → Fed) (fed : Fed) (is : feed fresh_reader its_bytes ≡ fed) (all : fed.taken ≡ 10) (demand : HandsBackThatList feed) where
   used : AllUsedUp (feeding feed) fresh_reader in_one
   used = (ap (λ f. drop f.taken its_bytes) is ∙ ap (λ n. drop n its_bytes) all, tt)
 
-  hears : (heard_then fed.heard [] ++ []) ++ [] ≡ Event (answer.Good early) 0 10 ∷ []
+  hears : (heard_then fed.heard [] ++ []) ++ [] ≡ Event (done early) 0 10 ∷ []
   hears =
       ap (λ f. (heard_then f.heard [] ++ []) ++ []) (sym is)
       ∙ (demand AsPrinted sent [] (is_good_law, tt) (refl, refl) in_one line_so used).0
@@ -89,8 +86,8 @@ hour_in (Dated layout status weekday date time) = 24
 abbrev hour_of : List Heard → ℕ
 hour_of [] = 24
 hour_of (Nothing ∷ heard) = 24
-hour_of (Event (answer.Good rec) start size ∷ heard) = hour_in rec
-hour_of (Event (answer.Refused number) start size ∷ heard) = 24
+hour_of (Event (done rec) start size ∷ heard) = hour_in rec
+hour_of (Event (refused number) start size ∷ heard) = 24
 hour_of (Refused number ∷ heard) = 24
 
 abbrev size_in : Outcome (List ℕ) → ℕ
@@ -104,8 +101,8 @@ is_done (refused number) = 0
 -- "a reader that refuses everything (demand 3 shuts it out)"; demand 2 too
 pub refusing_line_is_shut_out : HandsBackThatList refusing_line → ⊥
 refusing_line_is_shut_out demand =
-    let fed : Fed = record { reader = heard_it.reader; taken = 10; heard = Event (answer.Refused 1) 0 10 } in
-    let is : refusing_line fresh_reader its_bytes ≡ fed = ap (λ f. record { reader = f.reader; taken = f.taken; heard = answering (answer.Refused 1) f.heard }) heard_so in
+    let fed : Fed = record { reader = heard_it.reader; taken = 10; heard = Event (refused 1) 0 10 } in
+    let is : refusing_line fresh_reader its_bytes ≡ fed = ap (λ f. record { reader = f.reader; taken = f.taken; heard = answering (refused 1) f.heard }) heard_so in
     let told : ◌≡◌ {A = ℕ} 24 1 = ap hour_of (hears refusing_line fed is refl demand) in
     omega arith
 
@@ -117,8 +114,8 @@ refusing_reader_is_shut_out demand =
 -- "one that returns one fixed record (2 and 3)"
 pub fixed_line_is_shut_out : HandsBackThatList fixed_line → ⊥
 fixed_line_is_shut_out demand =
-    let fed : Fed = record { reader = heard_it.reader; taken = 10; heard = Event (answer.Good fixed_record) 0 10 } in
-    let is : fixed_line fresh_reader its_bytes ≡ fed = ap (λ f. record { reader = f.reader; taken = f.taken; heard = answering (answer.Good fixed_record) f.heard }) heard_so in
+    let fed : Fed = record { reader = heard_it.reader; taken = 10; heard = Event (done fixed_record) 0 10 } in
+    let is : fixed_line fresh_reader its_bytes ≡ fed = ap (λ f. record { reader = f.reader; taken = f.taken; heard = answering (done fixed_record) f.heard }) heard_so in
     let told : ◌≡◌ {A = ℕ} 0 1 = ap hour_of (hears fixed_line fed is refl demand) in
     omega arith
 

@@ -22,8 +22,7 @@ is_good_law = (refl, refl)
 pub refusing_reply_reader_is_shut_out : ReadsReplies refusing_reply_reader → ⊥
 refusing_reply_reader_is_shut_out demand =
     let told : refused 1 ≡ done fixed_reply = (demand (as_printed fixed_reply) fixed_reply).1 (is_good_law, refl) in
-    let z : ◌≡◌ {A = ℕ} 0 1 = cc in
-    omega arith
+    cc
 
 -- "one that returns one fixed record": no bytes at all are not its characters
 pub fixed_reply_reader_is_shut_out : ReadsReplies fixed_reply_reader → ⊥

@@ -12,7 +12,7 @@ use Rattle.calendar_rules.specs.TimeOfDay.{time_in_range}
 use Rattle.record_rules.specs.Rule.{time_alone_allowed, time_alone_refusal, refusal_of}
 use Rattle.telegram_rules.specs.Writing.{telegram_of}
 use Rattle.telegram_rules.proofs.BackAndForth.{written_reads_back}
-use Rattle.log_rules.specs.declared.verify.Verified.TheVariants.{AllGood, Bad}
+use Rattle.log_rules.specs.Verify.{AllGood, Bad}
 use Rattle.log_rules.specs.Block.{block_size}
 use Rattle.log_rules.specs.Good.{is_done, reads_well, is_good}
 use Rattle.log_rules.specs.Add.{place_at, add_of}
@@ -31,9 +31,7 @@ pub idle_add_is_shut_out : (read_back : List ℕ → ℕ → ℕ → Outcome (Li
 idle_add_is_shut_out read_back demand =
     let none : read_back [] 0 0 ≡ done [] = demand [] [] (place_at 0 0) refl in
     let some : read_back [] 0 0 ≡ done (0 ∷ []) = demand [] (0 ∷ []) (place_at 0 0) refl in
-    let same : ◌≡◌ {A = List ℕ} [] (0 ∷ []) = cc in
-    let size : ◌≡◌ {A = ℕ} 0 1 = ap length same in
-    omega arith
+    cc
 
 -- a read back that refuses everything: one telegram, added to a zeroed block
 abbrev telegram : List ℕ
@@ -63,14 +61,12 @@ is_free =
 pub refusing_add_is_shut_out : TakesTheFreeSlot refusing_add → ⊥
 refusing_add_is_shut_out demand =
     let told : refused 21 ≡ done (place_at 0 0) = demand (replicate (block_size * 1) 0) telegram (place_at 0 0) reads_well_law refl is_free in
-    let z : ◌≡◌ {A = ℕ} 0 1 = cc in
-    omega arith
+    cc
 
 pub refusing_read_back_is_shut_out : ReadsBackWhatIsAdded add_of refusing_read_back → ⊥
 refusing_read_back_is_shut_out demand =
     let told : refused 27 ≡ done telegram = demand (replicate (block_size * 1) 0) telegram (place_at 0 0) added in
-    let z : ◌≡◌ {A = ℕ} 0 1 = cc in
-    omega arith
+    cc
 
 -- a verify that always says that all is good: a zeroed block with one byte changed
 abbrev zeroed : List ℕ
@@ -97,5 +93,4 @@ is_first_bad =
 pub trusting_verify_is_shut_out : NamesTheFirstBad trusting_verify → ⊥
 trusting_verify_is_shut_out demand =
     let told : AllGood ≡ Bad 20 0 = (demand changed (ap (λ n. eqb (n % block_size) 0) size_so)).0 0 is_first_bad in
-    let z : ◌≡◌ {A = ℕ} 0 1 = cc in
-    omega arith
+    cc

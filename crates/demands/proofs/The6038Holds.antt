@@ -135,7 +135,7 @@ same_line : InTwoOrdersTwoListsMakeTheSameLine
 same_line time behind good = (
   (good, tt),
   (good, tt),
-  λ same. let z : ◌≡◌ {A = ℕ} 0 1 = cc in absurd (omega arith),
+  λ same. cc,
   ap (λ telegram. telegram ++ behind) (looks_like true time).0,
 )
 
@@ -148,8 +148,8 @@ not_in_place (Dated L6021 status weekday date time) alone = (refl, refl)
 not_in_place (Dated L2000 status weekday date time) alone = (refl, refl)
 not_in_place (Dated L5500 status weekday date time) alone = (refl, refl)
 not_in_place (Dated L5050 status weekday date time) alone = (refl, refl)
-not_in_place (TimeOnly T6021 time) alone = let z : ◌≡◌ {A = ℕ} 0 1 = cc in absurd (omega arith)
-not_in_place (TimeOnly T5500 time) alone = let z : ◌≡◌ {A = ℕ} 0 1 = cc in absurd (omega arith)
+not_in_place (TimeOnly T6021 time) alone = cc
+not_in_place (TimeOnly T5500 time) alone = cc
 not_in_place (TimeOnly T5050 time) alone = (refl, refl)
 
 -- what is read of a body in its frame
@@ -186,8 +186,7 @@ not_these p q first second is_one is_none = go (eqb first p) (eqb second q) refl
     go : (a b : Bool) → eqb first p ≡ a → eqb second q ≡ b → (a && (b && true)) ≡ false
     go true true same_first same_second =
         let wrong : is_trailer first second ≡ true = ap₂ is_trailer (eqb-true first p same_first) (eqb-true second q same_second) ∙ is_one in
-        let z : ◌≡◌ {A = ℕ} 0 1 = cc in
-        absurd (omega arith)
+        cc
     go true false same_first same_second = refl
     go false b same_first same_second = refl
 
@@ -224,8 +223,7 @@ found_one body there = go (layout_of body) refl (found body)
     go (done layout) is e = (layout, is)
     go (refused n) is e =
         let told : refused n ≡ done tt = e ∙ ap (λ t. unless (first_of (1 given_when not t ∷ [])) tt) there in
-        let z : ◌≡◌ {A = ℕ} 0 1 = cc in
-        absurd (omega arith)
+        cc
 
 neither_body : (text : List ℕ) (first second : ℕ) → among (map (length_of false) seven_layouts) (length (text ++ first ∷ second ∷ [])) ≡ true
     → is_trailer first second ≡ false

@@ -11,7 +11,7 @@ use lib.Seq.{take_at}
 use Rattle.refusals.specs.Refusals.{Outcome, done, refused, unless, after}
 use Rattle.refusals.specs.Tables.{EachHolds}
 use Rattle.refusals.proofs.Laws.{both, does, refuses, was_done}
-use Rattle.lent_buffer.specs.declared.Ending.TheVariants.{Whole}
+use Rattle.lent_buffer.specs.Endings.{Whole}
 use Rattle.lent_buffer.specs.Laying.{within, laid}
 use Rattle.lent_buffer.specs.OneBehindAnother.{joined, part_then, one_behind_another}
 use Rattle.lent_buffer.proofs.LayingLaws.{within_short, within_fits, within_refused, within_done}
@@ -24,7 +24,6 @@ use Rattle.record_rules.specs.declared.DatedLayout.{DatedLayout}
 use Rattle.record_rules.specs.declared.DatedLayout.TheVariants.{L6021, L2000, L5500, L5050}
 use Rattle.record_rules.specs.declared.Record.{Record}
 use Rattle.record_rules.specs.declared.Record.TheVariants.{Dated, TimeOnly}
-use Rattle.record_rules.specs.declared.RecordAnswer.TheVariants as answer
 use Rattle.record_rules.specs.Rule.{status_allowed, weekday_allowed, weekday_agrees, time_allowed, dated_refusal, refusal_of, carries_date}
 use Rattle.record_rules.specs.Next.{record_after, next_second_of}
 use Rattle.layouts_rules.specs.declared.Layout.TheVariants as layouts
@@ -40,7 +39,7 @@ use Rattle.telegram_rules.proofs.WriteLaws.{telegram_refused, telegram_made, was
 use Rattle.telegram_rules.proofs.ReadsBack.{written_is_good}
 use Rattle.telegram.proofs.SeveralLaws.{stood_as, several_stand}
 use Rattle.line.specs.declared.Reader.{Reader}
-use Rattle.line_rules.specs.declared.Heard.TheVariants.{Event}
+use Rattle.line_rules.specs.Hearing.{Event}
 use Rattle.line_rules.specs.Line.{is_plain, all_plain}
 use Rattle.line.specs.Cuts.{Calls}
 use Rattle.line_rules.specs.SentLine.{Sent, bytes_sent, no_stx, events_sent, stray_sent}
@@ -69,11 +68,11 @@ between rec room = ap (within room) (go (record_to_write Unnamed rec))
 form_layout : (rec form : Record) → as6021 rec ≡ done form → Is6021 form
 form_layout (Dated layout status weekday date time) form e =
     let is : Dated L6021 status weekday date time ≡ form = cc in ap own_layout (sym is)
-form_layout (TimeOnly layout time) form e = let z : ◌≡◌ {A = ℕ} 0 1 = cc in absurd (omega arith)
+form_layout (TimeOnly layout time) form e = cc
 
 has_form : (rec : Record) → carries_date rec ≡ true → as6021 rec ≡ done (form6021 rec)
 has_form (Dated layout status weekday date time) dated = refl
-has_form (TimeOnly layout time) dated = let z : ◌≡◌ {A = ℕ} 0 1 = cc in absurd (omega arith)
+has_form (TimeOnly layout time) dated = cc
 
 -- of a good record with a date the telegram of its 6021 form is written, which is good too
 module _ (rec : Record) (fine : GoodDated rec) where
@@ -139,8 +138,8 @@ events from [] fine = refl
 events from (rec ∷ recs) fine =
     let size = eighteen rec fine.0 in
     let next : from + 0 + length (telegram rec) ≡ from + 18 = omega (arith, size) in
-    (λ i. Event (answer.Good (form6021 rec)) (add-zero from i % 2 ^ 32) (size i) ∷ events_sent AsPrinted (next i) (map alone recs))
-    ∙ ap (◌∷◌ (Event (answer.Good (form6021 rec)) (from % 2 ^ 32) 18)) (events (from + 18) recs fine.1)
+    (λ i. Event (done (form6021 rec)) (add-zero from i % 2 ^ 32) (size i) ∷ events_sent AsPrinted (next i) (map alone recs))
+    ∙ ap (◌∷◌ (Event (done (form6021 rec)) (from % 2 ^ 32) 18)) (events (from + 18) recs fine.1)
 
 -- a body has no STX
 plain_no_stx : (bytes : List ℕ) → all_plain bytes ≡ true → no_stx bytes ≡ true
@@ -173,7 +172,7 @@ module _ (call : Reader → List ℕ → Calls) (demand : HandsBack call) where
           let size : length bytes ≡ 16 = ap length (sym body) ∙ telegram_length AsPrinted false form ∙ ap (length_of false) a_6021 in
           let back = demand AsPrinted [] bytes tt (ap no_stx (sym body) ∙ plain_no_stx (body_bytes form) (plain_body AsPrinted form)) served cut used in
           (back.0, back.1 ∙ ap (λ n. n % 4294967296) size, back.2)
-      go (refused n) is e = let z : ◌≡◌ {A = ℕ} 0 1 = cc in absurd (omega arith)
+      go (refused n) is e = cc
 
 -- Several, where there is room for all.
 all_stand : (recs : List Record) → EachHolds GoodDated recs → (room : ℕ) → 18 * length recs ≤ room
@@ -214,7 +213,7 @@ bare_as_before (Dated layout status weekday date time) is =
     go : (rec : Record) → as6021 rec ≡ done rec → (n : ℕ) → after (unless n rec) (λ r. done (telegram_of false r)) ≡ after (after (unless n rec) as6021) (λ r. done (telegram_of false r))
     go rec itself zero = ap (λ o. after o (λ r. done (telegram_of false r))) (sym itself)
     go rec itself (suc n) = refl
-bare_as_before (TimeOnly layout time) is = let z : ◌≡◌ {A = ℕ} 0 1 = cc in absurd (omega arith)
+bare_as_before (TimeOnly layout time) is = cc
 
 does_what_unnamed_did : NamedBareDoesWhatUnnamedDid
 does_what_unnamed_did rec buffer is = ap (λ o. laid o buffer) (bare_as_before rec is)
@@ -278,7 +277,7 @@ no_choice choice order (Dated layout status weekday date time) fine other same =
         let is : Dated L6021 status weekday date time ≡ r = cc in
         let eighteen : ◌≡◌ {A = ℕ} 18 16 = ap (λ rec. length_of true (own_layout rec)) is ∙ size in
         absurd (omega arith)
-no_choice choice order (TimeOnly layout time) fine other same = let z : ◌≡◌ {A = ℕ} 0 1 = cc in absurd (omega arith)
+no_choice choice order (TimeOnly layout time) fine other same = cc
 
 pub unnamed_writes : UnnamedWritesAreAsAskedFor
 unfolding unless within code_character render is_leap month_length month_in_range date_in_range day_exists month_start day_of time_in_range

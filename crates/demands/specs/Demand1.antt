@@ -4,9 +4,9 @@
 -- Here stands for each when it refuses (its rules, of which the lowest that holds is given), and so with which numbers.
 use Rattle.std.specs.Prelude.{Bool, true, false, not, List, [], ◌∷◌, ◌++◌, map, ◌≡◌, ℕ, ◌-◌, leb, length}
 use Rattle.refusals.specs.Refusals.{refused}
-use Rattle.lent_buffer.specs.declared.Ending.TheVariants as ending
+use Rattle.lent_buffer.specs.Endings.{ending_answer}
+use Rattle.lent_buffer.specs.Endings as ending
 use Rattle.lent_buffer.specs.Laying.{laid}
-use Rattle.lent_buffer.specs.Answers.{ending_answer}
 use Rattle.calendar_rules.specs.Calendar.{month_in_range, is_last_day, days_in_month, day_number, date_of, next_day}
 use Rattle.calendar_rules.specs.TimeOfDay.{time_in_range, second_of_day, next_second}
 use Rattle.calendar_rules.specs.declared.date.Date.{Date}
@@ -19,18 +19,16 @@ use Rattle.record_rules.specs.Next.{next_second_of}
 use Rattle.record_rules.specs.Utc.{count_of, utc_seconds}
 use Rattle.trailer_rules.specs.declared.Order.{Order}
 use Rattle.telegram_rules.specs.declared.write.Choice.{Choice}
-use Rattle.telegram.specs.declared.several.Several.{Several}
 use Rattle.telegram_rules.specs.Reading.{read_in}
-use Rattle.telegram.specs.SeveralTelegrams.{several_after}
+use Rattle.telegram.specs.SeveralTelegrams.{Several, several_after}
 use Rattle.telegram_rules.specs.Writing.{telegram_for, written}
 use Rattle.line.specs.declared.Reader.{Reader}
-use Rattle.line_rules.specs.declared.Heard.TheVariants.{Refused}
+use Rattle.line_rules.specs.Hearing.{Refused}
 use Rattle.line.specs.Readers.{well_formed, AsDeclared, feed_reader, end_reader}
 use Rattle.line.specs.Pieces.{passing}
 use Rattle.line.specs.Pieces as pieces
 use Rattle.clock.specs.declared.Clock.{Clock}
 use Rattle.clock.specs.Stepping.{step_of}
-use Rattle.clock.specs.Answers.{step_answer}
 use Rattle.board_rules.specs.declared.of_6036.Parameter.{Parameter}
 use Rattle.board_rules.specs.declared.of_6038.Parameter.{Parameter as Parameter6038}
 use Rattle.board_rules.specs.Of6036.{offered, byte_for}
@@ -102,8 +100,8 @@ UtcSecondsRefuse = (rec : Record) → (utc_seconds rec refused_by utc_rules rec)
 abbrev pub TheStepRefuses : Type 0
 TheStepRefuses =
     (clock : Clock)
-    → (step_answer (step_of clock).answer refused_by step_rules clock.rec)
-    × (step_answer (step_of clock).answer done_or 5 ∷ 6 ∷ 7 ∷ 8 ∷ 12 ∷ 14 ∷ [])
+    → ((step_of clock).answer refused_by step_rules clock.rec)
+    × ((step_of clock).answer done_or 5 ∷ 6 ∷ 7 ∷ 8 ∷ 12 ∷ 14 ∷ [])
 
 -- what a line gives: 1 to 10 but for 2, as STX and ETX always stand there
 abbrev pub on_the_line : List ℕ
@@ -172,4 +170,4 @@ ARefusedStateComesBackUnchanged =
 -- "a refused .. clock comes back unchanged"
 abbrev pub ARefusedClockComesBackUnchanged : Type 0
 ARefusedClockComesBackUnchanged =
-    (clock : Clock) (n : ℕ) → step_answer (step_of clock).answer ≡ refused n → (step_of clock).clock ≡ clock
+    (clock : Clock) (n : ℕ) → (step_of clock).answer ≡ refused n → (step_of clock).clock ≡ clock

@@ -1,14 +1,12 @@
 -- Demand 1 of the listing: its rows, a piece's rows, and a state that is refused.
 use Rattle.std.specs.Prelude.{false, cond, List, [], ◌∷◌, ◌++◌, ◌≡◌, ℕ, ltb, length}
-use Rattle.refusals.specs.Refusals.{done, refused}
-use Rattle.lent_buffer.specs.declared.Ending.TheVariants as ending
+use Rattle.refusals.specs.Refusals.{Outcome, done, refused}
+use Rattle.lent_buffer.specs.Endings as ending
 use Rattle.lent_buffer.specs.Laying.{laid}
 use Rattle.lent_buffer.specs.OneBehindAnother.{ending_in}
-use Rattle.record_rules.specs.declared.RecordAnswer.{RecordAnswer}
-use Rattle.record_rules.specs.declared.RecordAnswer.TheVariants as answer
+use Rattle.record_rules.specs.declared.Record.{Record}
 use Rattle.line.specs.declared.Reader.{Reader}
-use Rattle.line_rules.specs.declared.Heard.{Heard}
-use Rattle.line_rules.specs.declared.Heard.TheVariants.{Nothing, Event, Refused}
+use Rattle.line_rules.specs.Hearing.{Heard, Nothing, Event, Refused}
 use Rattle.line.specs.Readers.{well_formed, line_of, AsDeclared}
 use Rattle.line_rules.specs.Events.{events_of}
 use Rattle.listing_rules.specs.Listing.{header_row, record_row, refused_row, event_row, stray_row}
@@ -22,9 +20,9 @@ abbrev pub room_rules : ℕ → List ℕ → List Rule
 room_rules room row = 13 given_when ltb room (length row) ∷ []
 
 -- the row of an event: a record's own rules, and 13
-abbrev pub row_rules : ℕ → RecordAnswer → ℕ → List Rule
-row_rules start (answer.Good rec) room = record_rules rec ++ room_rules room (record_row start rec)
-row_rules start (answer.Refused number) room = room_rules room (refused_row start number)
+abbrev pub row_rules : ℕ → Outcome Record → ℕ → List Rule
+row_rules start (done rec) room = record_rules rec ++ room_rules room (record_row start rec)
+row_rules start (refused number) room = room_rules room (refused_row start number)
 
 -- the header and the count of stray bytes: 13
 abbrev pub TheHeaderRefuses : Type 0
@@ -36,7 +34,7 @@ TheStrayLineRefuses = (stray : ℕ) (buffer : List ℕ) → (laid (done (stray_r
 -- an event's row, into a buffer of any length: 5 to 8, 13
 abbrev pub ARowRefuses : Type 0
 ARowRefuses =
-    (start : ℕ) (told : RecordAnswer) (buffer : List ℕ)
+    (start : ℕ) (told : Outcome Record) (buffer : List ℕ)
     → ((laid (event_row start told) buffer).0 refused_by row_rules start told (length buffer))
     × ((laid (event_row start told) buffer).0 done_or 5 ∷ 6 ∷ 7 ∷ 8 ∷ 13 ∷ [])
 
@@ -45,7 +43,7 @@ abbrev pub ARowForRefuses : Type 0
 ARowForRefuses =
     (heard : Heard) (buffer : List ℕ)
     → (heard ≡ Nothing → (laid (row_for heard) buffer).0 ≡ done 0)
-    × ((told : RecordAnswer) (start size : ℕ) → heard ≡ Event told start size → (laid (row_for heard) buffer).0 ≡ (laid (event_row start told) buffer).0)
+    × ((told : Outcome Record) (start size : ℕ) → heard ≡ Event told start size → (laid (row_for heard) buffer).0 ≡ (laid (event_row start told) buffer).0)
     × ((n : ℕ) → heard ≡ Refused n → (laid (row_for heard) buffer).0 ≡ refused n)
 
 -- a piece listed into a buffer: 15 where the state is not well formed, else 13 exactly where the buffer is shorter than the rows of
@@ -58,7 +56,7 @@ ListingRefuses =
 -- a refused row changes no byte of the buffer
 abbrev pub ARefusedRowChangesNoByte : Type 0
 ARefusedRowChangesNoByte =
-    (start : ℕ) (told : RecordAnswer) (buffer : List ℕ) (n : ℕ) → (laid (event_row start told) buffer).0 ≡ refused n
+    (start : ℕ) (told : Outcome Record) (buffer : List ℕ) (n : ℕ) → (laid (event_row start told) buffer).0 ≡ refused n
     → (laid (event_row start told) buffer).1 ≡ buffer
 
 -- "a refused state .. comes back unchanged" from the listing too: no byte is taken, and no row is laid

@@ -3,12 +3,10 @@
 use Rattle.std.specs.Prelude.{Bool, true, false, not, ◌&&◌, ◌||◌, List, [], ◌∷◌, ◌++◌, ◌≡◌, ℕ, ltb}
 use Rattle.refusals.specs.Refusals.{Outcome, done, refused}
 use Rattle.trailer_rules.specs.declared.Order.TheVariants.{AsPrinted}
-use Rattle.log_rules.specs.declared.verify.Verified.{Verified}
-use Rattle.log_rules.specs.declared.verify.Verified.TheVariants.{AllGood, Bad, Refused}
+use Rattle.log_rules.specs.Verify.{AllGood, Bad, Refused, Verified, verify_of}
 use Rattle.log_rules.specs.Block.{slots}
 use Rattle.log_rules.specs.Good.{count_in, is_good}
 use Rattle.log_rules.specs.Region.{is_whole, blocks_in, whole_blocks, block_at}
-use Rattle.log_rules.specs.Verify.{verify_of}
 use Rattle.log_rules.specs.Add.{some_used, add_of}
 use Rattle.log_rules.specs.ReadBack.{read_back_of}
 use Rattle.demands.specs.Numbers.{Rule, ◌given_when◌, ◌by_first◌, ◌done_or◌}

@@ -4,10 +4,8 @@ use Rattle.record_rules.specs.declared.Record.{Record}
 use Rattle.record_rules.specs.Rule.{refusal_of}
 use Rattle.trailer_rules.specs.declared.Order.{Order}
 use Rattle.line.specs.declared.Reader.{Reader}
-use Rattle.line.specs.declared.Fed.{Fed}
-use Rattle.line_rules.specs.declared.Heard.{Heard}
-use Rattle.line_rules.specs.declared.Heard.TheVariants.{Nothing}
-use Rattle.line.specs.Readers.{fresh_in, end_reader}
+use Rattle.line_rules.specs.Hearing.{Heard, Nothing}
+use Rattle.line.specs.Readers.{fresh_in, end_reader, Fed}
 use Rattle.line.specs.Cuts.{Calls, feeding, Served, bytes_served, heard_of, reader_behind, AllUsedUp, serve}
 use Rattle.line.specs.Pieces.{using_up}
 use Rattle.line.specs.ReaderSentences.{SameByAnyCut, UsesUpAnyCut}

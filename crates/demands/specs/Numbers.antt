@@ -1,9 +1,7 @@
 -- What an entry point may answer: the words in which demand 1 is stated.
 use Rattle.std.specs.Prelude.{Bool, true, false, ◌&&◌, ◌||◌, List, [], ◌∷◌, ◌≡◌, ℕ, zero, suc, leb, eqb}
 use Rattle.refusals.specs.Refusals.{◌when◌, ◌else◌, lower, Outcome, done, refused, unless, after}
-use Rattle.record_rules.specs.Answers.{record_answer}
-use Rattle.line_rules.specs.declared.Heard.{Heard}
-use Rattle.line_rules.specs.declared.Heard.TheVariants.{Nothing, Event, Refused}
+use Rattle.line_rules.specs.Hearing.{Heard, Nothing, Event, Refused}
 
 -- a row of document 01's table of refusal numbers: "no. | given exactly when"
 infix 70 ◌given_when◌
@@ -63,7 +61,7 @@ abbrev pub ◌none_or◌ : ℕ → List ℕ → Type 0
 infix 10 ◌silent_or◌
 abbrev pub ◌silent_or◌ : Heard → List ℕ → Type 0
 ◌silent_or◌ Nothing numbers = Unit {0}
-◌silent_or◌ (Event answer start size) numbers = record_answer answer done_or numbers
+◌silent_or◌ (Event answer start size) numbers = answer done_or numbers
 ◌silent_or◌ (Refused n) numbers = ⊥
 
 abbrev pub EachSilentOr : List Heard → List ℕ → Type 0

@@ -8,8 +8,7 @@ use Rattle.telegram_rules.specs.declared.write.Choice.{Choice}
 use Rattle.telegram_rules.specs.Reading.{read_in}
 use Rattle.telegram_rules.specs.Writing.{written}
 use Rattle.line.specs.declared.Reader.{Reader}
-use Rattle.line.specs.declared.Fed.{Fed}
-use Rattle.line.specs.Readers.{feed_reader}
+use Rattle.line.specs.Readers.{feed_reader, Fed}
 
 -- one telegram read, in an order of the trailer, with or without control characters
 abbrev pub reads : Order → Bool → List ℕ → Outcome Record

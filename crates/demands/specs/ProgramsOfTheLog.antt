@@ -3,8 +3,7 @@
 use Rattle.std.specs.Prelude.{List, ℕ}
 use Rattle.refusals.specs.Refusals.{Outcome}
 use Rattle.log_rules.specs.declared.Place.{Place}
-use Rattle.log_rules.specs.declared.verify.Verified.{Verified}
-use Rattle.log_rules.specs.Verify.{verify_of}
+use Rattle.log_rules.specs.Verify.{verify_of, Verified}
 use Rattle.log_rules.specs.Add.{add_of}
 use Rattle.log_rules.specs.ReadBack.{read_back_of}
 

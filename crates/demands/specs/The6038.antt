@@ -1,6 +1,6 @@
 -- Document 02, f, "The 6038 board", sentence by sentence. That the trailer's order is a setting of the line stands in the demands
 -- themselves: demand 1's rules of reading and writing, and demands 2 and 3, are of both orders. The tables of 003 stand in
--- board/specs/AsPrinted6038.antt, and telegrams of each layout in both orders in telegram/specs/OrderAsPrinted.antt.
+-- board_rules/specs/AsPrinted6038.antt, and telegrams of each layout in both orders in telegram_rules/specs/OrderAsPrinted.antt.
 use Rattle.std.specs.Prelude.{Bool, true, false, cond, ◌&&◌, ◌||◌, List, [], ◌∷◌, ◌++◌, map, ◌≡◌, ℕ, eqb, length}
 use Rattle.refusals.specs.Refusals.{done, refused}
 use Rattle.ascii.specs.Control.{stx, etx, lf, cr, lf_cr, cr_lf}
@@ -19,9 +19,8 @@ use Rattle.trailer_rules.specs.declared.Order.{Order}
 use Rattle.trailer_rules.specs.declared.Order.TheVariants.{AsPrinted, Exchanged}
 use Rattle.telegram_rules.specs.declared.write.Setting.{Setting}
 use Rattle.telegram_rules.specs.declared.write.Choice.TheVariants.{Named, NamedIn}
-use Rattle.telegram.specs.declared.several.Several.{Several}
 use Rattle.telegram_rules.specs.Reading.{read_of}
-use Rattle.telegram.specs.SeveralTelegrams.{several_after}
+use Rattle.telegram.specs.SeveralTelegrams.{Several, several_after}
 use Rattle.telegram_rules.specs.Writing.{telegram_in}
 use Rattle.leitch_rules.specs.declared.Reply.{Reply}
 use Rattle.leitch_rules.specs.Writing.{reply_bytes}

@@ -3,8 +3,7 @@
 use Rattle.std.specs.Prelude.{true, List, ◌≡◌, ℕ, ◌<◌}
 use Rattle.refusals.specs.Refusals.{Outcome, done}
 use Rattle.log_rules.specs.declared.Place.{Place}
-use Rattle.log_rules.specs.declared.verify.Verified.{Verified}
-use Rattle.log_rules.specs.declared.verify.Verified.TheVariants.{AllGood, Bad}
+use Rattle.log_rules.specs.Verify.{AllGood, Bad, Verified}
 use Rattle.log_rules.specs.Good.{reads_well, is_good}
 use Rattle.log_rules.specs.Region.{is_whole, blocks_in, block_at}
 use Rattle.log_rules.specs.OfABlock.{AGoodBlockIsMadeByItsTelegrams, AGoodBlockHas512Bytes, AZeroedBlockIsGoodAndEmpty}

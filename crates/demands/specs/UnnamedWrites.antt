@@ -1,10 +1,10 @@
 -- Document 02, e, "Writes carry STX and ETX unless told otherwise", sentence by sentence. All refusals of a write together stand in the
 -- rules of demand 1, that an unnamed one reads back with control characters in demand 2, and its printed rows in
--- telegram/specs/AsPrinted.antt.
+-- telegram_rules/specs/AsPrinted.antt.
 use Rattle.std.specs.Prelude.{Bool, true, false, List, [], ◌∷◌, ◌++◌, ◌≡◌, ℕ, ◌+◌, ◌-◌, ◌*◌, ◌%◌, ◌^◌, ◌≤◌, ◌<◌, length, take}
 use Rattle.refusals.specs.Refusals.{Outcome, done, refused, after}
 use Rattle.refusals.specs.Tables.{EachHolds}
-use Rattle.lent_buffer.specs.declared.Ending.TheVariants.{Whole}
+use Rattle.lent_buffer.specs.Endings.{Whole}
 use Rattle.lent_buffer.specs.Laying.{within, laid}
 use Rattle.lent_buffer.specs.OneBehindAnother.{Next, nothing, part, one_behind_another}
 use Rattle.ascii.specs.Ascii.{ascii}
@@ -15,7 +15,6 @@ use Rattle.record_rules.specs.declared.DatedLayout.TheVariants.{L6021}
 use Rattle.record_rules.specs.declared.TimeLayout.{TimeLayout}
 use Rattle.record_rules.specs.declared.Record.{Record}
 use Rattle.record_rules.specs.declared.Record.TheVariants.{Dated, TimeOnly}
-use Rattle.record_rules.specs.declared.RecordAnswer.TheVariants as answer
 use Rattle.record_rules.specs.Rule.{refusal_of, carries_date}
 use Rattle.layouts_rules.specs.declared.Layout.TheVariants as layouts
 use Rattle.layouts_rules.specs.Layouts.{own_layout}
@@ -23,12 +22,10 @@ use Rattle.trailer_rules.specs.declared.Order.{Order}
 use Rattle.trailer_rules.specs.declared.Order.TheVariants.{AsPrinted}
 use Rattle.telegram_rules.specs.declared.write.Choice.{Choice}
 use Rattle.telegram_rules.specs.declared.write.Choice.TheVariants.{Named, Unnamed}
-use Rattle.telegram.specs.declared.several.Several.{Several}
-use Rattle.telegram.specs.SeveralTelegrams.{none_yet, with_more, unless_ended, several_after, several_all}
+use Rattle.telegram.specs.SeveralTelegrams.{Several, none_yet, with_more, unless_ended, several_after, several_all}
 use Rattle.telegram_rules.specs.Writing.{telegram_in, telegram_of, as6021, judged_of, telegram_for}
 use Rattle.line.specs.declared.Reader.{Reader}
-use Rattle.line_rules.specs.declared.Heard.{Heard}
-use Rattle.line_rules.specs.declared.Heard.TheVariants.{Event}
+use Rattle.line_rules.specs.Hearing.{Heard, Event}
 use Rattle.line.specs.Cuts.{Calls, feeding}
 use Rattle.line.specs.Pieces.{using_up}
 use Rattle.demands.specs.Programs.{writes, feeds}
@@ -77,7 +74,7 @@ form6021 (TimeOnly layout time) = TimeOnly layout time
 abbrev pub TheLineReaderSeesIt : (Reader → List ℕ → Calls) → Type 0
 TheLineReaderSeesIt call =
     (rec : Record) (room : ℕ) (bytes : List ℕ) → GoodDated rec → writes Unnamed rec room ≡ done bytes
-    → GivesBack call AsPrinted bytes (Event (answer.Good (form6021 rec)) 0 18 ∷ []) 0
+    → GivesBack call AsPrinted bytes (Event (done (form6021 rec)) 0 18 ∷ []) 0
 
 -- "An unnamed setting now means 6021 with control characters", without second advance: into every buffer it writes, or refuses, as that
 -- setting does by name of the 6021 form
@@ -104,7 +101,7 @@ TheRecordsOwnComesFirst = (rec : Record) (room : ℕ) → (Good rec → ⊥) →
 -- hands back their 6021 forms, one every 18 bytes
 abbrev pub every_eighteen : ℕ → List Record → List Heard
 every_eighteen from [] = []
-every_eighteen from (rec ∷ recs) = Event (answer.Good (form6021 rec)) (from % 2 ^ 32) 18 ∷ every_eighteen (from + 18) recs
+every_eighteen from (rec ∷ recs) = Event (done (form6021 rec)) (from % 2 ^ 32) 18 ∷ every_eighteen (from + 18) recs
 
 abbrev pub SeveralFollow : (Reader → List ℕ → Calls) → Type 0
 SeveralFollow call =

@@ -4,31 +4,27 @@ use Rattle.refusals.specs.Refusals.{Outcome, done, refused}
 use Rattle.record_rules.specs.declared.TimeLayout.TheVariants.{T6021}
 use Rattle.record_rules.specs.declared.Record.{Record}
 use Rattle.record_rules.specs.declared.Record.TheVariants.{TimeOnly}
-use Rattle.record_rules.specs.declared.RecordAnswer.{RecordAnswer}
-use Rattle.record_rules.specs.declared.RecordAnswer.TheVariants as answer
 use Rattle.trailer_rules.specs.declared.Order.{Order}
 use Rattle.telegram_rules.specs.declared.write.Choice.{Choice}
 use Rattle.line.specs.declared.Reader.{Reader}
-use Rattle.line.specs.declared.Fed.{Fed}
-use Rattle.line_rules.specs.declared.Heard.{Heard}
-use Rattle.line_rules.specs.declared.Heard.TheVariants.{Nothing, Event, Refused}
-use Rattle.line.specs.Readers.{reader_with, feed_reader}
+use Rattle.line_rules.specs.Hearing.{Heard, Nothing, Event, Refused}
+use Rattle.line.specs.Readers.{reader_with, feed_reader, Fed}
 
 -- "a reader that refuses everything": one telegram, and on the line
 abbrev pub refusing_reader : Order → Bool → List ℕ → Outcome Record
 refusing_reader order control bytes = refused 1
 
-abbrev pub answering : RecordAnswer → Heard → Heard
+abbrev pub answering : Outcome Record → Heard → Heard
 answering always Nothing = Nothing
 answering always (Event told start size) = Event always start size
 answering always (Refused number) = Refused number
 
-abbrev pub answering_line : RecordAnswer → Reader → List ℕ → Fed
+abbrev pub answering_line : Outcome Record → Reader → List ℕ → Fed
 answering_line always reader piece =
     record { reader = (feed_reader reader piece).reader; taken = (feed_reader reader piece).taken; heard = answering always (feed_reader reader piece).heard }
 
 abbrev pub refusing_line : Reader → List ℕ → Fed
-refusing_line = answering_line (answer.Refused 1)
+refusing_line = answering_line (refused 1)
 
 -- "one that returns one fixed record"
 abbrev pub fixed_record : Record
@@ -38,7 +34,7 @@ abbrev pub fixed_reader : Order → Bool → List ℕ → Outcome Record
 fixed_reader order control bytes = done fixed_record
 
 abbrev pub fixed_line : Reader → List ℕ → Fed
-fixed_line = answering_line (answer.Good fixed_record)
+fixed_line = answering_line (done fixed_record)
 
 -- "a writer .. that does nothing"
 abbrev pub idle_writer : Choice → Record → ℕ → Outcome (List ℕ)

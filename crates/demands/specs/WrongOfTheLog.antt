@@ -2,8 +2,7 @@
 use Rattle.std.specs.Prelude.{List, ℕ}
 use Rattle.refusals.specs.Refusals.{Outcome, done, refused}
 use Rattle.log_rules.specs.declared.Place.{Place}
-use Rattle.log_rules.specs.declared.verify.Verified.{Verified}
-use Rattle.log_rules.specs.declared.verify.Verified.TheVariants.{AllGood}
+use Rattle.log_rules.specs.Verify.{AllGood, Verified}
 use Rattle.log_rules.specs.Add.{place_at}
 
 -- an add that does nothing and answers a place

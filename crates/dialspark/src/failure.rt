@@ -1,9 +1,7 @@
 // What ends a run before its end, and how it is told.
-ghost use Rattle.std.specs.Prelude.{◌≡◌, OnOk};
-
 use super::{help, words};
 use command_line::Fault;
-use listing_output::Output;
+use listing_output::Unwritten;
 use std::io::Write;
 use std::rt::Env;
 use std::{fmt, io};
@@ -17,19 +15,19 @@ pub(crate) enum Failure {
     Unopened(usize, io::Error),
     CaptureUnread(io::Error),
     LogUnread(io::Error),
-    ListingUnwritten(io::Error),
-    ListingRefused,
+    ListingUnwritten(Unwritten),
     TextUnwritten(io::Error),
 }
 
-// Nothing, where all of a listing so far went out.
-pub(crate) fn went_out(output: Output) -> Result<(), Failure>
-    ensures { OnOk result (output ≡ Output.Whole) }
-{
-    match output {
-        Output::Whole => Ok(()),
-        Output::Failed(why) => Err(Failure::ListingUnwritten(why)),
-        Output::Refused(_) => Err(Failure::ListingRefused),
+impl From<Fault> for Failure {
+    fn from(fault: Fault) -> Failure {
+        Failure::Words(fault)
+    }
+}
+
+impl From<Unwritten> for Failure {
+    fn from(why: Unwritten) -> Failure {
+        Failure::ListingUnwritten(why)
     }
 }
 
@@ -73,10 +71,12 @@ impl Failure {
                 writeln!(to, "the capture cannot be read: {}", Reason(why))
             }
             Failure::LogUnread(why) => writeln!(to, "the log cannot be read: {}", Reason(why)),
-            Failure::ListingUnwritten(why) => {
+            Failure::ListingUnwritten(Unwritten::Failed(why)) => {
                 writeln!(to, "the listing cannot be written: {}", Reason(why))
             }
-            Failure::ListingRefused => writeln!(to, "the listing was refused"),
+            Failure::ListingUnwritten(Unwritten::Refused(_)) => {
+                writeln!(to, "the listing was refused")
+            }
             Failure::TextUnwritten(why) => {
                 writeln!(to, "this text cannot be written: {}", Reason(why))
             }

@@ -1,12 +1,10 @@
 // A captured line, listed to its end.
-ghost use Rattle.std.specs.Prelude.{◌≡◌, IfOk, IfSome, OnOk};
+ghost use Rattle.std.specs.Prelude.{IfSome, OnOk};
 ghost use Rattle.std.specs.Io.KnownBytes.{Appends};
 ghost use Rattle.listing_of_lines.specs.Whole.{listing_in};
-ghost use Rattle.listing_output.specs.declared.Output.TheVariants.{Whole};
 
-use super::failure::{Failure, went_out};
+use super::failure::Failure;
 use super::reads;
-use super::reads::Got;
 use listing_output::Printer;
 use std::io;
 use std::io::{Read, Write};
@@ -14,14 +12,6 @@ use trailer::Order;
 
 // How many bytes are read at once.
 const ROOM: usize = 65536;
-
-// The printer as it is, where all that it printed went out.
-fn whole(printer: Printer) -> Result<Printer, Failure>
-    ensures { IfOk result (λ same. (same ≡ printer) × (printer.output ≡ Whole)) }
-{
-    went_out(printer.output)?;
-    Ok(printer)
-}
 
 // Nothing says that the input ends, so the turns are counted up to a number that no run comes to. One buffer is lent to all of them: to
 // make it anew for each would take longer than to skip the stray bytes in it. Where a read fails the listing ends without its count of
@@ -34,13 +24,16 @@ pub(crate) fn list<S: Read, W: Write>(
     ensures { OnOk result (IfSome (S.remaining capture.old) (λ bytes. Appends (W.contents to.old) (W.contents to.new) (listing_in order bytes))) }
 {
     let mut buffer = [0u8; ROOM];
-    let mut printer = whole(Printer::start_in(to, order))?;
+    let mut printer = Printer::start_in(to, order);
+    printer.output?;
     for _ in 0..u64::MAX {
-        match reads::next(capture, &mut buffer) {
-            Got::Bytes(count) => printer = whole(printer.piece(to, &buffer[..count]))?,
-            Got::End => return went_out(printer.end(to).output),
-            Got::Failed(why) => return Err(Failure::CaptureUnread(why)),
-        }
+        let read = reads::next(capture, &mut buffer).map_err(Failure::CaptureUnread)?;
+        let Some(count) = read else {
+            printer.end(to).output?;
+            return Ok(());
+        };
+        printer = printer.piece(to, &buffer[..count]);
+        printer.output?;
     }
     Err(Failure::CaptureUnread(io::Error::other("too many reads")))
 }

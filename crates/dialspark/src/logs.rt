@@ -1,12 +1,11 @@
 // A log's file, block by block: its telegrams listed, or its blocks verified.
-use super::failure::{Failure, went_out};
+use super::failure::Failure;
 use super::reads;
-use super::reads::Got;
 use delivery_log::BLOCK_SIZE;
-use listing::{LONGEST_LOG_ROW, RowAnswer, log_rows};
+use listing::{LONGEST_LOG_ROW, log_rows};
 use listing_of_logs::PAGE;
-use listing_output::print_row;
-use refusals::NOT_WHOLE_BLOCKS;
+use listing_output::{Unwritten, print_row};
+use refusals::Refusal;
 use std::io;
 use std::io::{Read, Write};
 
@@ -22,20 +21,19 @@ pub(crate) enum Rows {
 fn fill<S: Read>(source: &mut S, block: &mut [u8]) -> io::Result<usize> {
     let mut done = 0;
     while done < block.len() {
-        match reads::next(source, &mut block[done..]) {
-            Got::Bytes(count) => done += count,
-            Got::End => break,
-            Got::Failed(why) => return Err(why),
-        }
+        let Some(count) = reads::next(source, &mut block[done..])? else {
+            break;
+        };
+        done += count;
     }
     Ok(done)
 }
 
-fn print<W: Write>(to: &mut W, made: RowAnswer, out: &[u8]) -> Result<(), Failure> {
-    went_out(print_row(to, made, out))
+fn print<W: Write>(to: &mut W, made: Result<usize, Refusal>, out: &[u8]) -> Result<(), Unwritten> {
+    print_row(to, made.map_err(Refusal::number), out)
 }
 
-fn print_header<W: Write>(rows: Rows, to: &mut W) -> Result<(), Failure> {
+fn print_header<W: Write>(rows: Rows, to: &mut W) -> Result<(), Unwritten> {
     let mut out = [0u8; LONGEST_LOG_ROW];
     let made = match rows {
         Rows::Telegrams => log_rows::header(&mut out),
@@ -45,14 +43,14 @@ fn print_header<W: Write>(rows: Rows, to: &mut W) -> Result<(), Failure> {
 }
 
 // A bad block has a row of its own.
-fn print_telegrams<W: Write>(number: u64, block: &[u8], to: &mut W) -> Result<(), Failure> {
+fn print_telegrams<W: Write>(number: u64, block: &[u8], to: &mut W) -> Result<(), Unwritten> {
     let mut out = [0u8; PAGE];
     let made = listing_of_logs::rows_of(number, block, &mut out);
     print(to, made, &out)
 }
 
 // Answers whether the block is good.
-fn print_verified<W: Write>(number: u64, block: &[u8], to: &mut W) -> Result<bool, Failure> {
+fn print_verified<W: Write>(number: u64, block: &[u8], to: &mut W) -> Result<bool, Unwritten> {
     let mut out = [0u8; LONGEST_LOG_ROW];
     let verified = listing_of_logs::verified_row(number, block, &mut out);
     print(to, verified.row, &out)?;
@@ -66,7 +64,7 @@ fn print_block<W: Write>(
     block: &[u8],
     bad: u64,
     to: &mut W,
-) -> Result<u64, Failure> {
+) -> Result<u64, Unwritten> {
     match rows {
         Rows::Telegrams => {
             print_telegrams(number, block, to)?;
@@ -74,26 +72,27 @@ fn print_block<W: Write>(
         }
         Rows::Blocks => {
             let good = print_verified(number, block, to)?;
-            Ok(if good { bad } else { bad.wrapping_add(1) })
+            Ok(bad.wrapping_add(u64::from(!good)))
         }
     }
 }
 
 // Bytes behind the last whole block: 19.
-fn print_tail<W: Write>(rows: Rows, number: u64, to: &mut W) -> Result<(), Failure> {
+fn print_tail<W: Write>(rows: Rows, number: u64, to: &mut W) -> Result<(), Unwritten> {
     let mut out = [0u8; LONGEST_LOG_ROW];
+    let refusal = Refusal::NotWholeBlocks.number();
     let made = match rows {
-        Rows::Telegrams => log_rows::block_row(number, NOT_WHOLE_BLOCKS, &mut out),
+        Rows::Telegrams => log_rows::block_row(number, refusal, &mut out),
         Rows::Blocks => {
             let offset = listing_of_logs::offset_of(number);
-            log_rows::tail_row(number, offset, NOT_WHOLE_BLOCKS, &mut out)
+            log_rows::tail_row(number, offset, refusal, &mut out)
         }
     };
     print(to, made, &out)
 }
 
 // The last row of a file's blocks: how many are bad. The telegrams have no such row.
-fn print_end<W: Write>(rows: Rows, bad: u64, to: &mut W) -> Result<(), Failure> {
+fn print_end<W: Write>(rows: Rows, bad: u64, to: &mut W) -> Result<(), Unwritten> {
     match rows {
         Rows::Telegrams => Ok(()),
         Rows::Blocks => {
@@ -120,7 +119,8 @@ pub(crate) fn list<S: Read, W: Write>(
             if count > 0 {
                 print_tail(rows, number, to)?;
             }
-            return print_end(rows, bad, to);
+            print_end(rows, bad, to)?;
+            return Ok(());
         }
         bad = print_block(rows, number, &block, bad, to)?;
     }

@@ -39,11 +39,10 @@ fn list_source<R: Env + Files + Input + Print>(
 }
 
 fn run<R: Env + Files + Input + Print>(rt: &R) -> Result<(), Failure> {
-    match words::read(rt) {
+    match words::read(rt)? {
         Asked::Listing(wanted, source) => list_source(rt, wanted, source),
         Asked::Help => help::help(&mut io::writer(rt)),
         Asked::Version => help::version(&mut io::writer(rt)),
-        Asked::Refused(fault) => Err(Failure::Words(fault)),
     }
 }
 

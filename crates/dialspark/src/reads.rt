@@ -6,14 +6,6 @@ ghost use Rattle.dialspark.specs.Reads.{Within, Takes};
 use std::io;
 use std::io::{ErrorKind, Read};
 
-// So many bytes at the start of the buffer, and at least one; the end; or a failure.
-#[derive(Drop)]
-pub enum Got {
-    Bytes(usize),
-    End,
-    Failed(io::Error),
-}
-
 // A read that a signal broke off is made again. The turns are counted up to a number that no run comes to.
 fn read<S: Read>(source: &mut S, buffer: &mut [u8]) -> io::Result<usize>
     ensures within { IfOk result (λ count. count ≤ length buffer.new) }
@@ -28,14 +20,13 @@ fn read<S: Read>(source: &mut S, buffer: &mut [u8]) -> io::Result<usize>
     Err(io::Error::from(ErrorKind::Interrupted))
 }
 
-// As many bytes as are there and have room.
-pub(crate) fn next<S: Read>(source: &mut S, buffer: &mut [u8]) -> Got
+// As many bytes as are there and have room stand at the start of the buffer, at least one. At the end there are none.
+pub(crate) fn next<S: Read>(source: &mut S, buffer: &mut [u8]) -> io::Result<Option<usize>>
     ensures within { Within result (length buffer.new) }
     ensures taken { Takes result (S.remaining source.old) (S.remaining source.new) buffer.new }
 {
-    match read(source, buffer) {
-        Ok(0) => Got::End,
-        Ok(count) => Got::Bytes(count),
-        Err(why) => Got::Failed(why),
+    match read(source, buffer)? {
+        0 => Ok(None),
+        count => Ok(Some(count)),
     }
 }

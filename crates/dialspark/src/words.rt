@@ -26,29 +26,27 @@ fn fetch<E: Env>(env: &E, place: usize, word: &mut [u8]) -> Option<usize>
 }
 
 // The first word is the program's own name.
-pub(crate) fn read<E: Env>(env: &E) -> Asked {
+pub(crate) fn read<E: Env>(env: &E) -> Result<Asked, Fault> {
     let mut word = [0u8; ROOM];
-    let mut found = command_line::no_word();
+    let mut asked = Ok(command_line::no_word());
     for place in 1..usize::MAX {
         let Some(count) = fetch(env, place, &mut word) else {
             break;
         };
-        found = command_line::with_word(found, place, &word[..count]);
+        asked = command_line::with_word(asked, place, &word[..count]);
     }
-    found
+    asked
 }
 
 // The file that the word at a place names.
 pub(crate) fn open<R: Env + Files>(rt: &R, place: usize) -> Result<R::File, Failure> {
     let mut word = [0u8; ROOM];
     let count = fetch(rt, place, &mut word).unwrap_or(0);
-    match str::from_utf8(&word[..count]) {
-        Ok(name) => fs::open(rt, name).map_err(|why| Failure::Unopened(place, why)),
-        Err(_) => {
-            let why = io::Error::from_raw_os_error(NO_TEXT);
-            Err(Failure::Unopened(place, why))
-        }
-    }
+    let Ok(name) = str::from_utf8(&word[..count]) else {
+        let why = io::Error::from_raw_os_error(NO_TEXT);
+        return Err(Failure::Unopened(place, why));
+    };
+    fs::open(rt, name).map_err(|why| Failure::Unopened(place, why))
 }
 
 // Its bytes need not be text.

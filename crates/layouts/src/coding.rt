@@ -1,7 +1,6 @@
 // What the digits of a layout mean, and the digits of a record. A telegram's places are no matter here.
-ghost use Rattle.std.specs.Prelude.{◌≡◌, ◌+◌, ◌*◌, ◌%◌, ◌≤◌};
-ghost use Rattle.bits.specs.Bits.{bit};
-ghost use Rattle.layouts_rules.specs.Coding.{reception_at, reception_number, status_in6021, status_in5500, status_in, status_out6021, status_out5500, status_out};
+ghost use Rattle.std.specs.Prelude.{◌≡◌, ◌+◌, ◌*◌, ◌%◌};
+ghost use Rattle.layouts_rules.specs.Coding.{reception_at, status_in6021, status_in5500, status_in, status_out6021, status_out5500, status_out};
 ghost use Rattle.layouts_rules.specs.Coding.{weekday_in, weekday_out, has_full_year, full_year, year_in, century_out, time_in, date_in, record_in, digits_out};
 
 use super::Layout;
@@ -22,26 +21,6 @@ fn reception_at(bits: u8) -> Reception
     }
 }
 
-fn reception_number(reception: Reception) -> u8
-    ensures { (result ≡ reception_number reception) × (result ≤ 3) }
-{
-    match reception {
-        Reception::Invalid => 0,
-        Reception::Crystal => 1,
-        Reception::Radio => 2,
-        Reception::High => 3,
-    }
-}
-
-fn bit(on: bool) -> u8
-    ensures { (result ≡ bit on) × (result ≤ 1) }
-{
-    if on {
-        return 1;
-    }
-    0
-}
-
 // 6021 and 2000: b3 b2 reception, b1 daylight, b0 announced; UTC is b3 of the weekday.
 fn status_in_6021(status: u8, weekday: u8) -> Status
     ensures { result ≡ status_in6021 status weekday }
@@ -57,96 +36,90 @@ fn status_in_6021(status: u8, weekday: u8) -> Status
 fn status_out_6021(status: Status) -> u8
     ensures { result ≡ status_out6021 status }
 {
-    let reception = status.reception;
-    4 * reception_number(reception) + 2 * bit(status.daylight) + bit(status.announced)
+    4 * status.reception as u8 + 2 * u8::from(status.daylight) + u8::from(status.announced)
 }
 
 // 5500 and 5050: b3 UTC, b2 daylight, b1 announced, b0 crystal and not radio.
 fn status_in_5500(status: u8) -> Status
     ensures { result ≡ status_in5500 status }
 {
-    let daylight = status / 4 % 2 == 1;
-    let utc = status / 8 % 2 == 1;
-    let announced = status / 2 % 2 == 1;
-    if status % 2 == 1 {
-        return Status {
-            reception: Reception::Crystal,
-            daylight,
-            utc,
-            announced,
-        };
-    }
     Status {
-        reception: Reception::Radio,
-        daylight,
-        utc,
-        announced,
+        reception: if status % 2 == 1 {
+            Reception::Crystal
+        } else {
+            Reception::Radio
+        },
+        daylight: status / 4 % 2 == 1,
+        utc: status / 8 % 2 == 1,
+        announced: status / 2 % 2 == 1,
     }
 }
 
 fn status_out_5500(status: Status) -> u8
     ensures { result ≡ status_out5500 status }
 {
-    let reception = status.reception;
-    let crystal = reception_number(reception) == 1;
-    8 * bit(status.utc) + 4 * bit(status.daylight) + 2 * bit(status.announced) + bit(crystal)
+    let crystal = status.reception == Reception::Crystal;
+    8 * u8::from(status.utc)
+        + 4 * u8::from(status.daylight)
+        + 2 * u8::from(status.announced)
+        + u8::from(crystal)
 }
 
 fn status_in(layout: DatedLayout, status: u8, weekday: u8) -> Status
     ensures { result ≡ status_in layout status weekday }
 {
     if table_of_6021(layout) {
-        return status_in_6021(status, weekday);
+        status_in_6021(status, weekday)
+    } else {
+        status_in_5500(status)
     }
-    status_in_5500(status)
 }
 
 fn status_out(layout: DatedLayout, status: Status) -> u8
     ensures { result ≡ status_out layout status }
 {
     if table_of_6021(layout) {
-        return status_out_6021(status);
+        status_out_6021(status)
+    } else {
+        status_out_5500(status)
     }
-    status_out_5500(status)
 }
 
 fn weekday_in(layout: DatedLayout, weekday: u8) -> u8
     ensures { result ≡ weekday_in layout weekday }
 {
     if table_of_6021(layout) {
-        return weekday % 8;
+        weekday % 8
+    } else {
+        weekday
     }
-    weekday
 }
 
 fn weekday_out(layout: DatedLayout, status: Status, weekday: u8) -> u8
     ensures { result ≡ weekday_out layout status weekday }
 {
     if table_of_6021(layout) {
-        return weekday % 8 + 8 * bit(status.utc);
+        weekday % 8 + 8 * u8::from(status.utc)
+    } else {
+        weekday
     }
-    weekday
 }
 
 fn has_full_year(layout: DatedLayout) -> bool
     ensures { result ≡ has_full_year layout }
 {
-    match layout {
-        DatedLayout::L6021 => false,
-        DatedLayout::L2000 => true,
-        DatedLayout::L5500 => false,
-        DatedLayout::L5050 => false,
-    }
+    layout == DatedLayout::L2000
 }
 
 // 80 to 99 is 1980 to 1999, and 00 to 79 is 2000 to 2079.
-fn full_year(year: u8) -> u16
+pub fn full_year(year: u8) -> u16
     ensures { result ≡ full_year year }
 {
     if year < 80 {
-        return 2000 + year as u16;
+        2000 + year as u16
+    } else {
+        1900 + year as u16
     }
-    1900 + year as u16
 }
 
 // Two decimal digits as a number. What stands in a slot has four bits.
@@ -161,9 +134,10 @@ fn year_in(layout: DatedLayout, digits: [u8; SLOTS]) -> u16
 {
     let year = pair(digits[14], digits[15]);
     if has_full_year(layout) {
-        return 100 * pair(digits[12], digits[13]) as u16 + year as u16;
+        100 * pair(digits[12], digits[13]) as u16 + year as u16
+    } else {
+        full_year(year)
     }
-    full_year(year)
 }
 
 // The time in the slots that every layout gives it.
@@ -214,10 +188,7 @@ pub fn record_in(layout: Layout, digits: [u8; SLOTS]) -> Record
 fn century_out(layout: DatedLayout, year: u16) -> u16
     ensures { result ≡ century_out layout year }
 {
-    if has_full_year(layout) {
-        return year / 100;
-    }
-    0
+    if has_full_year(layout) { year / 100 } else { 0 }
 }
 
 // The digits that a record's layout carries, and 0 in the slots that it does not use.

@@ -3,5 +3,6 @@
 
 pub mod coding;
 pub mod rows;
+pub mod slots;
 
 pub use layouts_rules::Layout;

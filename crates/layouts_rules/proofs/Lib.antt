@@ -3,4 +3,3 @@ pub mod RowLaws
 pub mod CodingLaws
 pub mod Carried
 pub mod AsPrintedHolds
-pub mod Whole

@@ -2,10 +2,10 @@
 use mathlib.Core.Path.{◌≡◌, refl, ap, sym, ◌∙◌}
 use mathlib.Core.Bool.{Bool, true, false, cond, ◌&&◌}
 use mathlib.Core.List.{List, map}
-use Prim.Native.Nat.{ℕ, ◌+◌, ◌-◌, ◌≤◌, ◌<◌}
+use Prim.Native.Nat.{ℕ, ◌≤◌, ◌<◌}
 use native.Mathlib.Omega.{arith}
 use lib.Dec.{leb, ltb, eqb}
-use lib.ListN.{length, take, drop, get_or, length-map}
+use lib.ListN.{length, get_or, length-map}
 use borrow.Author.Tests.{leb-true, eqb-true}
 use Rattle.refusals.specs.Refusals.{Outcome, done}
 use Rattle.refusals.proofs.Laws.{both}
@@ -16,9 +16,8 @@ use Rattle.places_rules.proofs.RoundTrip.{every_at_law, sound_slotted, sound_pla
 use Rattle.record_rules.specs.declared.DatedLayout.TheVariants.{L6021, L2000, L5500, L5050}
 use Rattle.record_rules.specs.declared.TimeLayout.TheVariants.{T6021, T5500, T5050}
 use Rattle.layouts_rules.specs.declared.Layout.{Layout}
-use Rattle.layouts_rules.specs.declared.rows.Span.{Span}
 use Rattle.layouts_rules.specs.declared.Layout.TheVariants as layouts
-use Rattle.layouts_rules.specs.Layouts.{places_of, all_rows, row_start, span_of, layout_of, by_trailer}
+use Rattle.layouts_rules.specs.Layouts.{places_of, row_numbers, layout_of, by_trailer}
 
 -- what holds of each of the seven rows holds of the row of any layout
 of_each : (P : List Place → Type 0)
@@ -79,26 +78,24 @@ limits (layouts.TimeOnly T5050) = refl
 pub row_limit : (layout : Layout) (slot : ℕ) → slot < slots → most (places_of layout) slot ≤ limit layout slot
 row_limit layout slot inside = leb-true _ _ (below slots (λ k. leb (most (places_of layout) k) (limit layout k)) (limits layout) slot inside)
 
--- the part of the kept rows that a layout's span marks is that layout's row
-span_marks : (layout : Layout) → map place (take (length (places_of layout)) (drop (row_start layout) all_rows)) ≡ places_of layout
-unfolding all_rows places_of place
-span_marks (layouts.Dated L6021) = refl
-span_marks (layouts.Dated L2000) = refl
-span_marks (layouts.Dated L5500) = refl
-span_marks (layouts.Dated L5050) = refl
-span_marks (layouts.TimeOnly T6021) = refl
-span_marks (layouts.TimeOnly T5500) = refl
-span_marks (layouts.TimeOnly T5050) = refl
+-- the numbers of a layout's row say its places
+numbers_say : (layout : Layout) → map place (row_numbers layout) ≡ places_of layout
+unfolding row_numbers places_of place
+numbers_say (layouts.Dated L6021) = refl
+numbers_say (layouts.Dated L2000) = refl
+numbers_say (layouts.Dated L5500) = refl
+numbers_say (layouts.Dated L5050) = refl
+numbers_say (layouts.TimeOnly T6021) = refl
+numbers_say (layouts.TimeOnly T5500) = refl
+numbers_say (layouts.TimeOnly T5050) = refl
 
-span_room : (layout : Layout) → row_start layout + length (places_of layout) ≤ length all_rows
-unfolding all_rows places_of
-span_room (layouts.Dated L6021) = omega arith
-span_room (layouts.Dated L2000) = omega arith
-span_room (layouts.Dated L5500) = omega arith
-span_room (layouts.Dated L5050) = omega arith
-span_room (layouts.TimeOnly T6021) = omega arith
-span_room (layouts.TimeOnly T5500) = omega arith
-span_room (layouts.TimeOnly T5050) = omega arith
+-- The row of a layout, as the code holds it.
+module _ (layout : Layout) (row : List ℕ) (kept : row ≡ row_numbers layout) where
+  pub row_kept : map place row ≡ places_of layout
+  row_kept = rw kept (numbers_say layout)
+
+  pub row_size : length row ≡ length (places_of layout)
+  row_size = sym (length-map row place) ∙ ap length row_kept
 
 -- The layout of a body, and the row of a layout, have one length.
 module _ (n : ℕ) (layout : Layout) where
@@ -152,25 +149,3 @@ found_again (layouts.TimeOnly T6021) body same holds =
 found_again (layouts.TimeOnly T5500) body same holds =
     let first : get_or body 6 0 ≡ 13 = eqb-true _ 13 (trailer_byte (layouts.TimeOnly T5500) body same holds 6 (omega arith)) in
     rw (same, first)
-
--- The rows and a span, as the code holds them.
-module _ (layout : Layout) (span : Span) (marks : span ≡ span_of layout) where
-  span_starts : span.start ≡ row_start layout
-  unfolding span_of
-  span_starts = ap (λ s. s.start) marks
-
-  pub span_ends : span.end ≡ span.start + length (places_of layout)
-  unfolding span_of
-  span_ends = ap (λ s. s.end) marks ∙ ap (λ n. n + length (places_of layout)) (sym span_starts)
-
-  module _ (rows : List ℕ) (kept : rows ≡ all_rows) where
-    pub span_row : map place (take (span.end - span.start) (drop span.start rows)) ≡ places_of layout
-    span_row =
-        let size : span.end - span.start ≡ length (places_of layout) = omega (arith, span_ends) in
-        rw (size, span_starts, kept) (span_marks layout)
-
-    pub span_within : span.end ≤ length rows
-    span_within = omega (arith, span_ends, span_starts, span_room layout, ap length kept)
-
-    pub span_length : length (take (span.end - span.start) (drop span.start rows)) ≡ length (places_of layout)
-    span_length = sym (length-map (take (span.end - span.start) (drop span.start rows)) place) ∙ ap length span_row

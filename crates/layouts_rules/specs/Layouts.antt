@@ -1,5 +1,5 @@
 -- Document 01, "The seven layouts": the table of layouts, and how a layout is found.
-use Rattle.std.specs.Prelude.{cond, ◌&&◌, List, [], ◌∷◌, ◌++◌, map, ℕ, ◌+◌, eqb, length, get_or}
+use Rattle.std.specs.Prelude.{cond, ◌&&◌, List, [], ◌∷◌, ◌++◌, map, ℕ, eqb, length, get_or}
 use Rattle.refusals.specs.Refusals.{Outcome, done, refused}
 use Rattle.ascii.specs.Control as control
 use Rattle.places_rules.specs.Places.{Place, fixed, decimal, code, place_number}
@@ -8,7 +8,6 @@ use Rattle.record_rules.specs.declared.TimeLayout.TheVariants.{T6021, T5500, T50
 use Rattle.record_rules.specs.declared.Record.{Record}
 use Rattle.record_rules.specs.declared.Record.TheVariants.{Dated, TimeOnly}
 use Rattle.layouts_rules.specs.declared.Layout.{Layout}
-use Rattle.layouts_rules.specs.declared.rows.Span.{Span}
 use Rattle.layouts_rules.specs.declared.Layout.TheVariants as layouts
 
 -- the pieces that the table's rows are made of; a digit's number is its slot
@@ -59,30 +58,9 @@ places_of (layouts.Dated L5050) =
     hh ++ space ∷ mm ++ space ∷ ss ++ space ∷ dd ++ space ∷ mo ++ space ∷ yy ++ space ∷ status ∷ weekday ∷ space ∷ CR ∷ LF ∷ []
 places_of (layouts.TimeOnly T5050) = hh ++ space ∷ mm ++ space ∷ ss ++ space ∷ CR ∷ LF ∷ []
 
--- the rows as the code keeps them: one number a place, one row behind another
-unfoldable pub all_rows : List ℕ
-all_rows =
-    map place_number
-    (places_of (layouts.Dated L6021)
-    ++ places_of (layouts.TimeOnly T6021)
-    ++ places_of (layouts.Dated L2000)
-    ++ places_of (layouts.Dated L5500)
-    ++ places_of (layouts.TimeOnly T5500)
-    ++ places_of (layouts.Dated L5050)
-    ++ places_of (layouts.TimeOnly T5050))
-
--- where each begins
-abbrev pub row_start : Layout → ℕ
-row_start (layouts.Dated L6021) = 0
-row_start (layouts.TimeOnly T6021) = 16
-row_start (layouts.Dated L2000) = 24
-row_start (layouts.Dated L5500) = 42
-row_start (layouts.TimeOnly T5500) = 61
-row_start (layouts.Dated L5050) = 69
-row_start (layouts.TimeOnly T5050) = 92
-
-unfoldable pub span_of : Layout → Span
-span_of layout = record { start = row_start layout; end = row_start layout + length (places_of layout) }
+-- a row as the code keeps it: one number a place
+unfoldable pub row_numbers : Layout → List ℕ
+row_numbers layout = map place_number (places_of layout)
 
 -- a record's own layout
 abbrev pub own_layout : Record → Layout

@@ -1,4 +1,3 @@
 pub mod Layouts
 pub mod Coding
-pub mod Answers
 pub mod AsPrinted

@@ -1,50 +1,20 @@
 // What the digits of a reply mean, and the digits of a reply.
 ghost use Rattle.std.specs.Prelude.{◌≡◌, ◌+◌, ◌*◌, ◌%◌};
 ghost use Rattle.places_rules.specs.Places.{code_value, code_character};
-ghost use Rattle.layouts_rules.specs.Coding.{code_at, time_in, full_year};
+ghost use Rattle.layouts_rules.specs.Coding.{code_at};
 ghost use Rattle.leitch_rules.specs.Coding.{date_in, reply_in, digits_out};
 
 use super::Reply;
-use super::row::ST;
 use calendar::date::Date;
-use calendar::time::Time;
-use layouts::Layout;
-use layouts::coding::record_in;
+use layouts::coding::{full_year, pair, time_in};
+use layouts::slots::ST;
 use places::SLOTS;
-use record::{Record, TimeLayout};
 
-// Two decimal digits as a number. What stands in a slot has four bits.
-fn pair(tens: u8, ones: u8) -> u8
-    ensures { result ≡ 10 * (tens % 16) + ones % 16 }
-{
-    10 * (tens % 16) + ones % 16
-}
-
-// Three of them.
+// Three decimal digits as a number.
 fn triple(hundreds: u8, tens: u8, ones: u8) -> u16
     ensures { result ≡ 10 * (10 * (hundreds % 16) + tens % 16) + ones % 16 }
 {
     10 * pair(hundreds, tens) as u16 + (ones % 16) as u16
-}
-
-// 80 to 99 is 1980 to 1999, and 00 to 79 is 2000 to 2079.
-fn full_year(year: u8) -> u16
-    ensures { result ≡ full_year year }
-{
-    if year < 80 {
-        return 2000 + year as u16;
-    }
-    1900 + year as u16
-}
-
-// The time stands in the slots that a 6021t gives it, and is read as there.
-fn time_in(digits: [u8; SLOTS]) -> Time
-    ensures { result ≡ time_in digits }
-{
-    match record_in(Layout::TimeOnly(TimeLayout::T6021), digits) {
-        Record::TimeOnly(_, time) => time,
-        Record::Dated(_, _, _, _, time) => time,
-    }
 }
 
 fn date_in(digits: [u8; SLOTS]) -> Date
@@ -73,9 +43,7 @@ fn status_out(character: u8) -> u8
 {
     let row = [ST];
     let shown = [character];
-    let found = places::scan(&row, &shown);
-    let digits = found.digits;
-    digits[0]
+    places::scan(&row, &shown).digits[0]
 }
 
 // The reply that digits carry, right or wrong.

@@ -1,8 +1,9 @@
-// The reply as data: a row of 31 places.
+// The reply as data: a row of 31 places. Time, day, month, status and weekday stand in the slots of the seven layouts.
 ghost use Rattle.std.specs.Prelude.{◌≡◌};
 ghost use Rattle.leitch_rules.specs.Row.{row_numbers};
 
-use places::{FIRST_CODE, FIRST_DECIMAL};
+use layouts::slots::{D0, D1, H0, H1, M0, M1, MO0, MO1, S0, S1, ST, WD};
+use places::FIRST_DECIMAL;
 
 pub(crate) const PLACES: usize = 31;
 
@@ -18,32 +19,7 @@ const CR: u8 = b'\r';
 
 const LF: u8 = b'\n';
 
-// Places that hold a digit: its slot, counted from the first decimal or the first code place.
-pub(crate) const ST: u8 = FIRST_CODE;
-
-const WD: u8 = FIRST_CODE + 1;
-
-// Behind the letters of hour, minute, second, day, month, year, millisecond and day of the year stands the power of ten.
-const H1: u8 = FIRST_DECIMAL + 2;
-
-const H0: u8 = FIRST_DECIMAL + 3;
-
-const M1: u8 = FIRST_DECIMAL + 4;
-
-const M0: u8 = FIRST_DECIMAL + 5;
-
-const S1: u8 = FIRST_DECIMAL + 6;
-
-const S0: u8 = FIRST_DECIMAL + 7;
-
-const D1: u8 = FIRST_DECIMAL + 8;
-
-const D0: u8 = FIRST_DECIMAL + 9;
-
-const MO1: u8 = FIRST_DECIMAL + 10;
-
-const MO0: u8 = FIRST_DECIMAL + 11;
-
+// Behind the letters of year, millisecond and day of the year stands the power of ten.
 const Y1: u8 = FIRST_DECIMAL + 12;
 
 const Y0: u8 = FIRST_DECIMAL + 13;
@@ -60,25 +36,22 @@ const N1: u8 = FIRST_DECIMAL + 18;
 
 const N0: u8 = FIRST_DECIMAL + 19;
 
-// Source document 000, 6.5: a field and what stands behind it a line.
+// The row of the reply. Source document 000, 6.5: a field and what stands behind it a line.
 #[rattlefmt::skip]
-const ROW: [u8; PLACES] = [
-    H1, H0, COLON,
-    M1, M0, COLON,
-    S1, S0, POINT,
-    MS2, MS1, MS0, SP,
-    D1, D0, SLASH,
-    MO1, MO0, SLASH,
-    Y1, Y0, SP,
-    N2, N1, N0, SP,
-    WD, SP,
-    ST,
-    CR, LF,
-];
-
-// The row of the reply.
-pub(crate) fn row() -> [u8; PLACES]
-    ensures { result ≡ row_numbers }
+pub(crate) fn row() -> &'static [u8; PLACES]
+    ensures { result.now ≡ row_numbers }
 {
-    ROW
+    &[
+        H1, H0, COLON,
+        M1, M0, COLON,
+        S1, S0, POINT,
+        MS2, MS1, MS0, SP,
+        D1, D0, SLASH,
+        MO1, MO0, SLASH,
+        Y1, Y0, SP,
+        N2, N1, N0, SP,
+        WD, SP,
+        ST,
+        CR, LF,
+    ]
 }

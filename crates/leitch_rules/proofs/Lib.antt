@@ -5,4 +5,3 @@ pub mod BackAndForth
 pub mod ReadLaws
 pub mod WriteLaws
 pub mod Spelled
-pub mod Whole

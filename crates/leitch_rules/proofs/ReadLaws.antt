@@ -5,9 +5,11 @@ use Prim.Native.Nat.{ℕ}
 use lib.ListN.{length}
 use borrow.Author.Tests.{eq-eqb, ne_eqb}
 use Rattle.refusals.specs.Refusals.{done, refused, unless}
-use Rattle.refusals.proofs.Laws.{refuses, refuses_first, does}
-use Rattle.places_rules.specs.Places.{place, row_fault, found_in}
-use Rattle.places_rules.specs.declared.Found.{Found}
+use Rattle.refusals.specs.Numbers.{number}
+use Rattle.refusals.specs.declared.Refusal.{Refusal}
+use Rattle.refusals.proofs.Laws.{does}
+use Rattle.refusals.proofs.NumberLaws.{refused_by, refused_first_by}
+use Rattle.places_rules.specs.Places.{Finding, place, row_fault, found_in}
 use Rattle.leitch_rules.specs.declared.Reply.{Reply}
 use Rattle.leitch_rules.specs.Row.{reply_row, row_numbers}
 use Rattle.leitch_rules.specs.Coding.{reply_in}
@@ -25,7 +27,7 @@ module _ (bytes : List ℕ) where
   ends_by_length other = rw (ne_eqb _ 31 other)
 
   -- what the row finds in 31 characters
-  module _ (size : length bytes ≡ 31) (found : Found) (row : List ℕ) (kept : row ≡ row_numbers) (e : found ≡ found_in (map place row) bytes) where
+  module _ (size : length bytes ≡ 31) (found : Finding) (row : List ℕ) (kept : row ≡ row_numbers) (e : found ≡ found_in (map place row) bytes) where
     seen : found ≡ found_in reply_row bytes
     seen = e ∙ ap (λ r. found_in r bytes) (row_kept row kept)
 
@@ -37,9 +39,9 @@ module _ (bytes : List ℕ) where
     unfolding found_in carried
     carried_is = ap reply_in (sym (ap (λ f. f.digits) seen))
 
-    pub ends_in_row : (found.fault ≡ 0 → ⊥) → refused found.fault ≡ reply_of bytes
+    pub ends_in_row : (why : Refusal) → number why ≡ found.fault → refused (number why) ≡ reply_of bytes
     unfolding reply_of reply_refusal
-    ends_in_row some = rw (eq-eqb _ 31 size) (refuses_first (carried bytes) _ fault_is some)
+    ends_in_row why same = rw (eq-eqb _ 31 size) (refused_first_by (carried bytes) why _ (same ∙ fault_is))
 
     module _ (fits : found.fault ≡ 0) (reply : Reply) (is : reply ≡ reply_in found.digits) where
       told : carried bytes ≡ reply
@@ -48,14 +50,14 @@ module _ (bytes : List ℕ) where
       none : row_fault reply_row bytes ≡ 0
       none = sym fault_is ∙ fits
 
-      pub ends_refused : (n : ℕ) → n ≡ fields_refusal reply → (n ≡ 0 → ⊥) → refused n ≡ reply_of bytes
+      pub ends_refused : (why : Refusal) → number why ≡ fields_refusal reply → refused (number why) ≡ reply_of bytes
       unfolding reply_of reply_refusal
-      ends_refused n e some = rw (eq-eqb _ 31 size, none, told) (refuses_first reply _ e some)
+      ends_refused why same = rw (eq-eqb _ 31 size, none, told) (refused_first_by reply why _ same)
 
       module _ (good : fields_refusal reply ≡ 0) where
-        pub ends_disagreeing : (n : ℕ) → n ≡ day_refusal reply → (n ≡ 0 → ⊥) → refused n ≡ reply_of bytes
+        pub ends_disagreeing : (why : Refusal) → number why ≡ day_refusal reply → refused (number why) ≡ reply_of bytes
         unfolding reply_of reply_refusal
-        ends_disagreeing n e some = rw (eq-eqb _ 31 size, none, told, good) (refuses reply e some)
+        ends_disagreeing why same = rw (eq-eqb _ 31 size, none, told, good) (refused_by reply why same)
 
         pub ends_good : day_refusal reply ≡ 0 → done reply ≡ reply_of bytes
         unfolding reply_of reply_refusal

@@ -7,7 +7,10 @@ use lib.ListN.{length, drop}
 use lib.Seq.{take_all}
 use borrow.Author.Tests.{lt-ltb, le-ltb}
 use Rattle.refusals.specs.Refusals.{done, refused, unless}
-use Rattle.refusals.proofs.Laws.{refuses, refuses_first, does}
+use Rattle.refusals.specs.Numbers.{number}
+use Rattle.refusals.specs.declared.Refusal.{Refusal}
+use Rattle.refusals.proofs.Laws.{does}
+use Rattle.refusals.proofs.NumberLaws.{refused_by, refused_first_by}
 use Rattle.places_rules.specs.Places.{place, render, over}
 use Rattle.lent_buffer.specs.Laying.{laid}
 use Rattle.lent_buffer.proofs.LayingLaws.{laid_fits, laid_refused}
@@ -23,9 +26,9 @@ module _ (reply : Reply) (out : List ℕ) where
   refusing : (n : ℕ) → refused n ≡ written reply (length out) → laid (written reply (length out)) out ≡ (refused n, out)
   refusing n e = ap (λ o. laid o out) (sym e) ∙ laid_refused n out
 
-  pub ends_refused : (n : ℕ) → n ≡ fields_refusal reply → (n ≡ 0 → ⊥) → laid (written reply (length out)) out ≡ (refused n, out)
+  pub ends_refused : (why : Refusal) → number why ≡ fields_refusal reply → laid (written reply (length out)) out ≡ (refused (number why), out)
   unfolding written
-  ends_refused n e some = refusing n (refuses_first (reply_bytes reply) _ e some)
+  ends_refused why same = refusing (number why) (refused_first_by (reply_bytes reply) why _ same)
 
   module _ (good : fields_refusal reply ≡ 0) where
     pub ends_short : length out < 31 → laid (written reply (length out)) out ≡ (refused 13, out)
@@ -33,9 +36,9 @@ module _ (reply : Reply) (out : List ℕ) where
     ends_short short = refusing 13 (rw (good, lt-ltb _ 31 short))
 
     module _ (enough : 31 ≤ length out) where
-      pub ends_disagreeing : (n : ℕ) → n ≡ day_refusal reply → (n ≡ 0 → ⊥) → laid (written reply (length out)) out ≡ (refused n, out)
+      pub ends_disagreeing : (why : Refusal) → number why ≡ day_refusal reply → laid (written reply (length out)) out ≡ (refused (number why), out)
       unfolding written
-      ends_disagreeing n e some = refusing n (rw (good, le-ltb _ 31 enough) (refuses (reply_bytes reply) e some))
+      ends_disagreeing why same = refusing (number why) (rw (good, le-ltb _ 31 enough) (refused_by (reply_bytes reply) why same))
 
       -- what the code's row and digits make of the buffer
       pub ends_written : day_refusal reply ≡ 0 → (row digits last : List ℕ) → row ≡ row_numbers → digits ≡ digits_out reply

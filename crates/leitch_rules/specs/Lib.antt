@@ -3,6 +3,5 @@ pub mod Coding
 pub mod Rule
 pub mod Reading
 pub mod Writing
-pub mod Answers
 pub mod RoundTrip
 pub mod AsPrinted

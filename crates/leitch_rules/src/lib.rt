@@ -1,14 +1,11 @@
 // The reply to a Leitch generator. No code.
 #![tactic(auto)]
 
-pub mod read;
-pub mod write;
-
 use calendar_rules::date::Date;
 use calendar_rules::time::Time;
 
 // A reply as its characters carry it; whether it is a good one is asked by each function.
-#[derive(Clone, Copy)]
+#[derive(Clone, Copy, Debug, PartialEq, Eq)]
 pub struct Reply {
     pub time: Time,
     pub millisecond: u16,

@@ -3,3 +3,4 @@ pub mod LayingLaws
 pub mod TailLaws
 pub mod CopyLaws
 pub mod OneBehindAnotherLaws
+pub mod EndingLaws

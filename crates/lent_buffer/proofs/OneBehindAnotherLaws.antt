@@ -9,8 +9,7 @@ use lib.ListN.{length, take, drop, length-append, length-drop, take-append-drop}
 use lib.Seq.{drop-drop, length-take-le, take_at, drop_at}
 use borrow.Author.Tests.{lt-ltb, le-ltb, ltb-true, ltb-false}
 use Rattle.refusals.specs.Refusals.{Outcome, done, refused}
-use Rattle.lent_buffer.specs.declared.Ending.{Ending}
-use Rattle.lent_buffer.specs.declared.Ending.TheVariants.{Whole, Refused}
+use Rattle.lent_buffer.specs.Endings.{Ending, Whole, Refused}
 use Rattle.lent_buffer.specs.Laying.{within, laid}
 use Rattle.lent_buffer.specs.OneBehindAnother.{Next, nothing, part, Standing, joined, no_more, part_then, next_then, one_behind_another, ending_in}
 use Rattle.lent_buffer.proofs.LayingLaws.{within_cases, within_done, stands, stops}

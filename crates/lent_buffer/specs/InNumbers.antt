@@ -1,7 +1,7 @@
 -- How bytes are laid, and parts of them one behind another, in numbers.
 use Rattle.std.specs.Prelude.{◌≡◌, List, [], ◌∷◌, ℕ}
 use Rattle.refusals.specs.Refusals.{Outcome, done, refused}
-use Rattle.lent_buffer.specs.declared.Ending.TheVariants.{Whole, Refused}
+use Rattle.lent_buffer.specs.Endings.{Whole, Refused}
 use Rattle.lent_buffer.specs.Laying.{laid}
 use Rattle.lent_buffer.specs.OneBehindAnother.{Next, nothing, part, one_behind_another}
 

@@ -1,4 +1,4 @@
+pub mod Endings
 pub mod Laying
 pub mod OneBehindAnother
-pub mod Answers
 pub mod InNumbers

@@ -2,8 +2,7 @@
 -- the earlier ones stay, and the answer gives how many stand and the refusal's number, if any". So for parts of any kind.
 use Rattle.std.specs.Prelude.{cond, List, [], ◌∷◌, ◌++◌, ℕ, zero, suc, ◌-◌, ltb, length}
 use Rattle.refusals.specs.Refusals.{Outcome, done, refused}
-use Rattle.lent_buffer.specs.declared.Ending.{Ending}
-use Rattle.lent_buffer.specs.declared.Ending.TheVariants.{Whole, Refused}
+use Rattle.lent_buffer.specs.Endings.{Ending, Whole, Refused}
 use Rattle.lent_buffer.specs.Laying.{within}
 
 -- what comes next of what is to be written: nothing more, or a part's bytes or its refusal, and what is left behind that part

@@ -1,9 +1,2 @@
-// Bytes laid into a lent buffer, one behind another: how that ends.
+// Bytes laid into a lent buffer, one behind another. There is no code here: specs/ has the words.
 #![tactic(auto)]
-
-// All was laid, or a refusal ended it.
-#[derive(Clone, Copy)]
-pub enum Ending {
-    Whole,
-    Refused(u8),
-}

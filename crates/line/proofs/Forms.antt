@@ -1,9 +1,10 @@
 -- Laws of the tests of a well-formed state, one byte after the other. Assumes nothing.
-use Rattle.std.proofs.Common.{◌≡◌, ℕ, zero, suc, ◌+◌, ◌-◌, ◌%◌, ◌^◌, ◌<◌, ◌≤◌, min, true, ◌&&◌, eqb, List, [], ◌∷◌, ◌++◌, length, get_or, take, drop, replicate, sym, refl, ap, ◌∙◌, ap₂, add-one, arith, length-drop, drop_of_length-le, length-take, drop-cons, get_or-take, drop-drop, eqb-true}
+use Rattle.std.proofs.Common.{◌≡◌, ℕ, zero, suc, ◌+◌, ◌-◌, ◌%◌, ◌^◌, ◌<◌, ◌≤◌, min, true, ◌&&◌, eqb, leb, le-leb, List, [], ◌∷◌, ◌++◌, length, get_or, take, drop, replicate, sym, refl, ap, ◌∙◌, ap₂, add-one, arith, length-drop, drop_of_length-le, length-take, drop-cons, drop-drop, eqb-true}
 use Rattle.refusals.proofs.Laws.{both}
 use Rattle.trailer_rules.specs.declared.Order.{Order}
-use Rattle.line.specs.Readers.{reader_with, reader_of, all_zero}
-use Rattle.line_rules.specs.Line.{places, line_with, start_of, is_plain, all_plain, is_started}
+use Rattle.line.specs.declared.Reader.{Reader}
+use Rattle.line.specs.Readers.{reader_with, reader_of, all_zero, well_formed, well_formed_at}
+use Rattle.line_rules.specs.Line.{places, line_with, start_of, all_plain, is_started}
 
 -- zeros
 pub zero_step : (held : List ℕ) (at : ℕ) → at < length held → all_zero (drop at held) ≡ (eqb (get_or held at 0) 0 && all_zero (drop (at + 1) held))
@@ -20,18 +21,6 @@ started_parts (first ∷ held) h = refl
 module _ (held : List ℕ) (len : ℕ) (size : length held ≡ places) where
   pub taken_length : length (take len held) ≡ min len places
   taken_length = length-take len held ∙ ap (min len) size
-
-  pub plain_step : (at : ℕ) → at < len → at < places
-      → all_plain (drop at (take len held)) ≡ (is_plain (get_or held at 0) && all_plain (drop (at + 1) (take len held)))
-  plain_step at l h =
-      rw (drop-cons (take len held) at 0 (omega (arith, taken_length)), get_or-take len held at 0 l, add-one)
-
-  pub plain_end : (at : ℕ) → min len places ≤ at → all_plain (drop at (take len held)) ≡ true
-  plain_end at h = rw (drop_of_length-le (take len held) {i = at} (omega (arith, taken_length)))
-
-  pub first_is : 0 < len → is_started (take len held) ≡ (eqb (get_or held 0 0) 2 && all_plain (drop 1 (take len held)))
-  first_is some =
-      started_parts (take len held) (omega (arith, taken_length)) ∙ rw (get_or-take len held 0 0 some)
 
 -- a start position: the one number that the bytes held lead from to the bytes fed
 pub start_is : (fed len start : ℕ) → fed < 2 ^ 32 → start < 2 ^ 32 → len ≤ places → (start + len) % 2 ^ 32 ≡ fed → (fed + (2 ^ 32 - len)) % 2 ^ 32 ≡ start
@@ -68,3 +57,20 @@ padding held len n size e =
     let rest = sym (drop-drop n len held) in
     let left : length (drop (len + n) held) ≡ places - (len + n) = length-drop (len + n) held ∙ ap (λ k. k - (len + n)) size in
     zeros (drop (len + n) held) (ap all_zero rest ∙ zero_on n (drop len held) e) ∙ ap (λ k. replicate k 0) left
+
+-- the test of a state that holds nothing, and of any other
+pub well_outside : (reader : Reader) → reader.len ≡ 0 → reader.fed < 2 ^ 32 → well_formed reader ≡ (all_zero reader.held && eqb reader.start reader.fed)
+unfolding well_formed_at
+well_outside reader none fits =
+    let start : (reader.fed + (2 ^ 32 - 0)) % 2 ^ 32 ≡ reader.fed = omega arith in
+    (λ i. leb (none i) places && (is_started (take (none i) reader.held) && (all_zero (drop (none i) reader.held) && eqb reader.start ((reader.fed + (2 ^ 32 - length (take (none i) reader.held))) % 2 ^ 32))))
+    ∙ ap (λ s. all_zero reader.held && eqb reader.start s) start
+
+pub well_inside : (reader : Reader) (start : ℕ) → length reader.held ≡ places → reader.fed < 2 ^ 32 → start < 2 ^ 32 → reader.len ≤ places → (start + reader.len) % 2 ^ 32 ≡ reader.fed
+    → well_formed reader ≡ (is_started (take reader.len reader.held) && (all_zero (drop reader.len reader.held) && eqb reader.start start))
+unfolding well_formed_at
+well_inside reader start size fed_fits start_fits fits wraps =
+    let held_size = taken_length reader.held reader.len size in
+    let held : length (take reader.len reader.held) ≡ reader.len = omega (arith, held_size) in
+    let is = start_is reader.fed (length (take reader.len reader.held)) start fed_fits start_fits (omega (arith, held)) (ap (λ len. (start + len) % 2 ^ 32) held ∙ wraps) in
+    λ i. le-leb reader.len places fits i && (is_started (take reader.len reader.held) && (all_zero (drop reader.len reader.held) && eqb reader.start (is i)))

@@ -2,7 +2,7 @@
 use Rattle.std.proofs.Common.{◌≡◌, ℕ, ◌+◌, ◌%◌, ◌^◌, true, List, [], length, refl, ap, ◌∙◌, zero-add, arith}
 use Rattle.trailer_rules.specs.declared.Order.{Order}
 use Rattle.line.specs.declared.Reader.{Reader}
-use Rattle.line_rules.specs.declared.Heard.TheVariants.{Nothing}
+use Rattle.line_rules.specs.Hearing.{Nothing}
 use Rattle.line.specs.Readers.{reader_of, fresh_in, end_reader}
 use Rattle.line_rules.specs.Line.{fresh_line}
 use Rattle.line_rules.specs.Events.{events_of, line_after}

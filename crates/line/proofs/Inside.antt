@@ -3,15 +3,12 @@ use Rattle.std.proofs.Common.{◌≡◌, ℕ, suc, ◌+◌, ◌-◌, ◌%◌, �
 use lib.Seq.{paste, take-paste}
 use Rattle.refusals.specs.Refusals.{Outcome, refused}
 use Rattle.record_rules.specs.declared.Record.{Record}
-use Rattle.record_rules.specs.declared.RecordAnswer.{RecordAnswer}
-use Rattle.record_rules.specs.declared.RecordAnswer.TheVariants as answer
-use Rattle.record_rules.specs.Answers.{record_answer}
 use Rattle.ascii.specs.Control.{stx, etx}
 use Rattle.trailer_rules.specs.declared.Order.{Order}
 use Rattle.line.specs.declared.Reader.{Reader}
-use Rattle.line_rules.specs.declared.Heard.TheVariants.{Nothing, Event}
+use Rattle.line_rules.specs.Hearing.{Nothing, Event}
 use Rattle.line.specs.Readers.{reader_with, reader_of, line_of, well_formed, fed_for, feed_reader, feed_reader_at}
-use Rattle.line_rules.specs.Line.{places, judgement, Line, line_with, is_plain, event, Feeding, feed_of, start_of, answer_for}
+use Rattle.line_rules.specs.Line.{places, judgement, Line, line_with, is_plain, event, Feeding, feed_of, start_of}
 use Rattle.line_rules.specs.Runs.{roomy_run}
 use Rattle.line.proofs.Forms.{taken_length, start_stays, padding}
 use Rattle.line_rules.proofs.RunLaws.{Within, run_within, run_ends}
@@ -113,19 +110,19 @@ module _ (reader : Reader) (piece : List ℕ) (size : length reader.held ≡ pla
   pub inside_stops : (next : List ℕ) (outcome : Outcome Record) (count : ℕ) → length next ≤ places
       → feed_of grown (drop added piece) ≡ stopped grown next outcome count
       → feed_reader reader piece
-      ≡ record { reader = reader_of (line_with next ((reader.fed + (added + 1)) % 2 ^ 32) reader.stray reader.order); taken = added + 1; heard = Event (answer_for outcome) reader.start count }
+      ≡ record { reader = reader_of (line_with next ((reader.fed + (added + 1)) % 2 ^ 32) reader.stray reader.order); taken = added + 1; heard = Event outcome reader.start count }
   inside_stops next outcome count fits e =
       let same : (reader.fed + added + 1) % 2 ^ 32 ≡ (reader.fed + (added + 1)) % 2 ^ 32 % 2 ^ 32 = omega arith in
       let reads = reader_wraps reader.order next (reader.fed + added + 1) ((reader.fed + (added + 1)) % 2 ^ 32) reader.stray reader.stray fits same refl in
       let one : 1 + added ≡ added + 1 = omega arith in
       fed_by_run
       ∙ ap (λ feeding. fed_for (later added feeding)) e
-      ∙ (λ i. record { reader = reads i; taken = one i; heard = Event (answer_for outcome) (starts i) count })
+      ∙ (λ i. record { reader = reads i; taken = one i; heard = Event outcome (starts i) count })
 
   pub stops_with : (next : List ℕ) (outcome : Outcome Record) (count : ℕ) → length next ≤ places
       → feed_of grown (drop added piece) ≡ stopped grown next outcome count
-      → (after : Reader) (fed n size : ℕ) (answer : RecordAnswer)
-      → after ≡ reader_of (line_with next fed reader.stray reader.order) → fed ≡ (reader.fed + (n + 1)) % 2 ^ 32 → n ≡ added → answer ≡ answer_for outcome → size ≡ count
+      → (after : Reader) (fed n size : ℕ) (answer : Outcome Record)
+      → after ≡ reader_of (line_with next fed reader.stray reader.order) → fed ≡ (reader.fed + (n + 1)) % 2 ^ 32 → n ≡ added → answer ≡ outcome → size ≡ count
       → record { reader = after; taken = n + 1; heard = Event answer reader.start size } ≡ feed_reader reader piece
   stops_with next outcome count fits e after fed n size answer is_after is_fed is_n is_answer is_size =
       let reads =
@@ -179,7 +176,3 @@ module _ (reader : Reader) (piece : List ℕ) (size : length reader.held ≡ pla
   -- what is judged
   pub judged : take (reader.len + added) (paste reader.held reader.len piece added) ≡ gathered
   judged = take-paste reader.held reader.len piece added (omega (arith, size, kept.fits)) added_fits.1
-
-pub answered : (answer : RecordAnswer) → answer ≡ answer_for (record_answer answer)
-answered (answer.Good rec) = refl
-answered (answer.Refused number) = refl

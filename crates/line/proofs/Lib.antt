@@ -1,6 +1,6 @@
 pub mod Forms
+pub mod Found
 pub mod ReaderLaws
-pub mod Copies
 pub mod Inside
 pub mod Wraps
 pub mod Strays
@@ -14,3 +14,4 @@ pub mod ReaderSentencesHold
 pub mod SkippingReadersHolds
 pub mod LongerReadersHold
 pub mod OrderHolds
+pub mod Whole

@@ -1,12 +1,9 @@
 -- The order is a setting of the line: every one is well formed, and no call changes it. Assumes nothing.
 use Rattle.std.proofs.Common.{◌≡◌, ℕ, zero, suc, Bool, true, false, cond, List, drop, refl, ◌∙◌}
 use Rattle.trailer_rules.specs.declared.Order.{Order}
-use Rattle.line_rules.specs.declared.Heard.{Heard}
-use Rattle.line_rules.specs.declared.Heard.TheVariants.{Nothing, Event, Refused}
-use Rattle.line.specs.declared.Fed.{Fed}
-use Rattle.line.specs.declared.Ended.{Ended}
+use Rattle.line_rules.specs.Hearing.{Heard, Nothing, Event, Refused}
+use Rattle.line.specs.Readers.{Ended, Fed, reader_of, line_of, fed_for, well_formed, well_formed_at, feed_reader, feed_reader_at, end_reader, end_reader_at}
 use Rattle.line.specs.declared.Reader.{Reader}
-use Rattle.line.specs.Readers.{reader_of, line_of, fed_for, well_formed, well_formed_at, feed_reader, feed_reader_at, end_reader, end_reader_at}
 use Rattle.line_rules.specs.Line.{feed_of, ended, told_by_end, heard_for}
 use Rattle.line.specs.Pieces.{Passing, pass_on, passing}
 use Rattle.line.specs.ReaderSentences.{AFreshOneIsAsPrintedIfNotNamed, EveryOrderIsWellFormed, TheOrderStays}

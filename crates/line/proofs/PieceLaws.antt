@@ -1,16 +1,13 @@
 -- Laws of a piece that is used up: one call more, and the end of it. Assumes nothing.
-use Rattle.std.proofs.Common.{◌≡◌, ℕ, zero, suc, ◌+◌, ◌-◌, ◌<◌, ◌≤◌, Bool, true, false, cond, List, [], ◌∷◌, ◌++◌, map, length, take, drop, set, replicate, sym, ap, ◌∙◌, append_assoc, add-zero, zero-add, add-one, arith, length-drop, take-append-drop, length-take, take_all, drop-drop, take-suc-set, drop-set-lt}
-use Rattle.record_rules.specs.declared.RecordAnswer.{RecordAnswer}
+use Rattle.std.proofs.Common.{◌≡◌, ℕ, zero, suc, ◌+◌, ◌-◌, ◌<◌, ◌≤◌, Bool, true, false, cond, List, [], ◌∷◌, ◌++◌, map, length, take, drop, set, replicate, sym, ap, ◌∙◌, append_assoc, add-zero, zero-add, add-one, arith, length-drop, take-append-drop, take_all, drop-drop, take-suc-set, drop-set-lt}
 use Rattle.line.specs.declared.Reader.{Reader}
-use Rattle.line.specs.declared.Fed.{Fed}
-use Rattle.line_rules.specs.declared.Heard.{Heard}
-use Rattle.line_rules.specs.declared.Heard.TheVariants.{Nothing, Event, Refused}
-use Rattle.line.specs.declared.pieces.Slot.{Slot}
-use Rattle.line.specs.declared.pieces.Passed.{Passed}
-use Rattle.line.specs.Readers.{well_formed, fed_for, line_of, feed_reader, feed_reader_at}
+use Rattle.line_rules.specs.Hearing.{Heard, Nothing, Event, Refused}
+use Rattle.line.specs.Pieces.{Slot, Passed, room, Passing, pass_on, passing, slot_of, passed_for}
+use Rattle.line.specs.Readers.{well_formed, fed_for, line_of, feed_reader, feed_reader_at, Fed}
 use Rattle.line_rules.specs.Line.{feed_of}
-use Rattle.line.specs.Pieces.{room, Passing, pass_on, passing, slot_of, passed_for}
 use Rattle.line_rules.proofs.EventLaws.{taken_fits}
+use Rattle.refusals.specs.Refusals.{Outcome}
+use Rattle.record_rules.specs.declared.Record.{Record}
 
 -- a call takes no more than there is, whatever the reader
 taken_by : (reader : Reader) (piece : List ℕ) (good : Bool)
@@ -103,7 +100,7 @@ module _ (whole : Passed) (slots : List Slot) (count taken : ℕ) (reader : Read
   ends_with refusal is =
       sym (no_more_law slots count taken fed.taken refusal fed.reader empty) ∙ sym (so_far ∙ ap (behind slots count taken) (called ∙ is later))
 
-  pub goes_on : {answer : RecordAnswer} {start size : ℕ} → fed.heard ≡ Event answer start size → length slots ≡ room
+  pub goes_on : {answer : Outcome Record} {start size : ℕ} → fed.heard ≡ Event answer start size → length slots ≡ room
       → whole ≡ behind (set slots count (slot_of fed.heard)) (count + 1) (taken + fed.taken) later
   goes_on {answer} {start} {size} is slot =
       so_far
@@ -137,16 +134,3 @@ passing_fits (suc more) reader piece =
     fits_by fed.heard fed (passing more fed.reader (drop fed.taken piece)) more (length piece)
     (omega (arith, on.0, length-drop fed.taken piece, feed_fits reader piece))
     on.1
-
--- the same of the unread end of a piece: what is taken of it ends in the piece
-pub end_fits : (reader : Reader) (whole : List ℕ) (at : ℕ) (passed : Passed) → at ≤ length whole
-    → passed ≡ passed_for (passing room reader (take (length whole - at) (drop at whole))) → at + passed.taken ≤ length whole
-end_fits reader whole at passed within is =
-    let rest = take (length whole - at) (drop at whole) in
-    omega (
-      arith,
-      ap (λ p. p.taken) is,
-      (passing_fits room reader rest).0,
-      length-take (length whole - at) (drop at whole),
-      length-drop at whole,
-    )

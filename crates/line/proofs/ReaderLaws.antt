@@ -2,9 +2,8 @@
 use Rattle.std.proofs.Common.{◌≡◌, ℕ, ◌-◌, ◌%◌, ◌^◌, ◌<◌, ◌≤◌, true, false, ◌&&◌, eqb, leb, List, [], ◌∷◌, ◌++◌, length, take, drop, replicate, sym, refl, ap, ◌∙◌, add-zero, arith, take-append-drop, eqb-true, leb-true}
 use Rattle.refusals.specs.Refusals.{refused}
 use Rattle.refusals.proofs.Laws.{both}
-use Rattle.record_rules.specs.declared.RecordAnswer.TheVariants as answer
 use Rattle.line.specs.declared.Reader.{Reader}
-use Rattle.line_rules.specs.declared.Heard.TheVariants.{Nothing, Event, Refused}
+use Rattle.line_rules.specs.Hearing.{Nothing, Event, Refused}
 use Rattle.line.specs.Readers.{reader_with, reader_of, line_of, all_zero, well_formed, well_formed_at, feed_reader, feed_reader_at, end_reader, end_reader_at}
 use Rattle.line_rules.specs.Line.{places, line_with, event, told_by_end, start_of, is_started}
 use Rattle.line.proofs.Forms.{taken_length, padding}
@@ -47,7 +46,7 @@ module _ (reader : Reader) where
   end_outside e none = rw (e, none)
 
   pub end_inside : well_formed reader ≡ true → length reader.held ≡ places → 0 < reader.len
-      → end_reader reader ≡ record { reader = reader_of (line_with [] reader.fed reader.stray reader.order); heard = Event (answer.Refused 11) reader.start reader.len }
+      → end_reader reader ≡ record { reader = reader_of (line_with [] reader.fed reader.stray reader.order); heard = Event (refused 11) reader.start reader.len }
   unfolding end_reader_at
   end_inside e size some =
       let len = taken_length reader.held reader.len size in

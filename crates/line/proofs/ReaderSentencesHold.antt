@@ -1,6 +1,6 @@
 -- Document 01's sentences on the reader hold, but for the account (AccountHolds) and the cuts (CutLaws, UsesUp). Assumes nothing.
 use Rattle.std.proofs.Common.{sym, refl, ap, ◌∙◌, arith}
-use Rattle.line_rules.specs.declared.Heard.TheVariants.{Nothing}
+use Rattle.line_rules.specs.Hearing.{Nothing}
 use Rattle.line.specs.Readers.{reader_of, line_of, well_formed, feed_reader_at, end_reader_at}
 use Rattle.line_rules.specs.Line.{fresh_line}
 use Rattle.line.specs.Pieces.{room, passing}

@@ -1,20 +1,19 @@
 -- Laws of feeding outside a telegram: stray bytes are counted at once, an STX begins a telegram, and one that is whole is judged. Assumes nothing.
 use Rattle.std.proofs.Common.{◌≡◌, ℕ, suc, ◌+◌, ◌-◌, ◌%◌, ◌^◌, ◌<◌, ◌≤◌, true, List, [], ◌∷◌, ◌++◌, length, get_or, take, drop, sym, refl, ap, ◌∙◌, ap₂, zero-add, add-one, arith, length-drop, drop_of_length-le, length-take-le, get_or-drop, drop-cons, take-suc}
-use Rattle.record_rules.specs.declared.RecordAnswer.{RecordAnswer}
-use Rattle.record_rules.specs.Answers.{record_answer}
 use Rattle.ascii.specs.Control.{stx, etx}
 use Rattle.trailer_rules.specs.declared.Order.{Order}
 use Rattle.telegram_rules.specs.Reading.{read_in}
 use Rattle.line.specs.declared.Reader.{Reader}
-use Rattle.line.specs.declared.Fed.{Fed}
-use Rattle.line_rules.specs.declared.Heard.TheVariants.{Nothing, Event}
-use Rattle.line.specs.Readers.{reader_of, fed_for, feed_reader}
-use Rattle.line_rules.specs.Line.{places, judgement, line_with, feed_of, start_of, answer_for}
+use Rattle.line_rules.specs.Hearing.{Nothing, Event}
+use Rattle.line.specs.Readers.{reader_of, fed_for, feed_reader, Fed}
+use Rattle.line_rules.specs.Line.{places, judgement, line_with, feed_of, start_of}
 use Rattle.line_rules.specs.Runs.{stray_run, roomy_run, WholeAt}
 use Rattle.line_rules.proofs.FeedLaws.{later, outside, feed_stray, feed_start, feed_run}
 use Rattle.line_rules.proofs.RunLaws.{stray_ends, run_within}
-use Rattle.line.proofs.Inside.{reader_wraps, stopped, at_etx, answered}
+use Rattle.line.proofs.Inside.{reader_wraps, stopped, at_etx}
 use Rattle.line.proofs.Wraps.{alike, feed_reader_law}
+use Rattle.refusals.specs.Refusals.{Outcome}
+use Rattle.record_rules.specs.declared.Record.{Record}
 
 wrapped : (count : ℕ) → count % 2 ^ 32 % 2 ^ 32 ≡ count % 2 ^ 32
 wrapped count = omega arith
@@ -118,9 +117,9 @@ module _ (order : Order) (fed stray : ℕ) (piece : List ℕ) where
         ∙ ap (λ bytes. later plain (feed_of (line_with held (fed + begin + 1 + plain) (stray + begin) order) bytes)) ends_so
         ∙ ap (later plain) (at_etx order (fed + begin + 1 + plain) (stray + begin) (drop (suc plain) rest) held (omega arith)))
 
-    pub whole_read : (after : Reader) (f s start : ℕ) (answer : RecordAnswer)
+    pub whole_read : (after : Reader) (f s start : ℕ) (answer : Outcome Record)
         → f ≡ (fed + (end + 1)) % 2 ^ 32 → s ≡ (stray + begin) % 2 ^ 32 → after ≡ reader_of (outside order f s) → start ≡ (fed + begin) % 2 ^ 32
-        → record_answer answer ≡ read_in order true (take (end + 1 - begin) (drop begin piece))
+        → answer ≡ read_in order true (take (end + 1 - begin) (drop begin piece))
         → record { reader = after; taken = end + 1; heard = Event answer start (end + 1 - begin) } ≡ feed_reader (reader_of (outside order fed stray)) piece
     whole_read after f s start answer is_f is_s is_after is_start is_answer =
         let fed_sum : fed + (end + 1) ≡ fed + begin + 1 + plain + 1 = omega (arith, whole.ends) in
@@ -128,7 +127,7 @@ module _ (order : Order) (fed stray : ℕ) (piece : List ℕ) where
         let stray_wraps = moved_so stray s begin (stray + begin) is_s refl in
         let reads = is_after ∙ reader_wraps order [] f (fed + begin + 1 + plain + 1) s (stray + begin) (omega arith) fed_wraps stray_wraps in
         let taken : end + 1 ≡ 1 + plain + 1 + begin = omega (arith, whole.ends) in
-        let said : answer ≡ answer_for (judgement order held) = answered answer ∙ ap answer_for (is_answer ∙ ap (read_in order true) telegram_is) in
+        let said : answer ≡ (judgement order held) = is_answer ∙ ap (read_in order true) telegram_is in
         let at : start ≡ start_of (line_with held (fed + begin + 1 + plain) (stray + begin) order) = omega (arith, is_start, held_size, few) in
         let size : end + 1 - begin ≡ length held + 1 = omega (arith, held_size, whole.ends) in
         let n = sym whole.begins in

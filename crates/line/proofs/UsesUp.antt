@@ -3,11 +3,9 @@ use Rattle.std.proofs.Common.{◌≡◌, ℕ, zero, suc, ◌+◌, ◌-◌, ◌<�
 use mathlib.Core.Path.{subst⁻¹}
 use lib.ListN.{length-map}
 use lib.Seq.{take-append_seam}
-use Rattle.line.specs.declared.Fed.{Fed}
-use Rattle.line_rules.specs.declared.Heard.{Heard}
-use Rattle.line_rules.specs.declared.Heard.TheVariants.{Nothing, Event, Refused}
-use Rattle.line.specs.Readers.{reader_of, feed_reader}
-use Rattle.line_rules.specs.Line.{Line, Told, nothing, event, Feeding, stop_or, feed_of, told_by, step, start_of, heard_for, answer_for}
+use Rattle.line_rules.specs.Hearing.{Heard, Nothing, Event, Refused}
+use Rattle.line.specs.Readers.{reader_of, feed_reader, Fed}
+use Rattle.line_rules.specs.Line.{Line, Told, nothing, event, Feeding, stop_or, feed_of, told_by, step, start_of, heard_for}
 use Rattle.line_rules.specs.Events.{line_after}
 use Rattle.line.specs.Cuts.{Calls, called_for, feeding}
 use Rattle.line.specs.Pieces.{room, Passing, pass_on, passing, slot_of, passed_for, handed_on, using_up}
@@ -86,7 +84,7 @@ pass_by : {line : Line} {piece : List ℕ} (told : Told) (at taken : ℕ) (next 
     → Splits line piece (after_passing (pass_on (heard_for told at) fed later) piece)
 pass_by nothing at taken next later here on = here
 pass_by {line} {piece} (event outcome size) at taken next later here on =
-    subst (λ rest. Splits line piece (record { reader = later.reader; rest = rest; heard = Event (answer_for outcome) at size ∷ later.events }))
+    subst (λ rest. Splits line piece (record { reader = later.reader; rest = rest; heard = Event outcome at size ∷ later.events }))
     (drop-drop later.taken taken piece)
     (split_on (called_for (record { reader = reader_of next; taken = taken; heard = heard_for (event outcome size) at }) piece) (after_passing later (drop taken piece)) here on)
 

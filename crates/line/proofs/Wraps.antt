@@ -2,9 +2,9 @@
 use Rattle.std.proofs.Common.{◌≡◌, ℕ, zero, suc, ◌+◌, ◌-◌, ◌%◌, ◌^◌, ◌≤◌, Bool, true, ◌&&◌, List, [], ◌∷◌, ◌++◌, length, take, drop, replicate, sym, refl, ap, ◌∙◌, arith, eq-eqb, le-leb}
 use lib.Seq.{take-append_seam, drop-append_seam}
 use Rattle.trailer_rules.specs.declared.Order.{Order}
-use Rattle.line_rules.specs.declared.Heard.TheVariants.{Nothing, Event}
+use Rattle.line_rules.specs.Hearing.{Nothing, Event}
 use Rattle.line.specs.Readers.{reader_of, line_of, all_zero, well_formed, well_formed_at, fed_for, feed_reader, feed_reader_at}
-use Rattle.line_rules.specs.Line.{places, line_with, answer_for, Line, Told, nothing, event, Feeding, stop_or, feed_of, held_after, told_by, stray_by, start_of, is_started}
+use Rattle.line_rules.specs.Line.{places, line_with, Line, Told, nothing, event, Feeding, stop_or, feed_of, held_after, told_by, stray_by, start_of, is_started}
 use Rattle.line.proofs.Inside.{reader_wraps}
 use Rattle.line_rules.proofs.GoodLines.{held_fits}
 
@@ -16,7 +16,7 @@ alike_by : (told : Told) (start start' : ℕ) (next next' : Line) (on on' : Feed
     → fed_for (stop_or told start next on) ≡ fed_for (stop_or told start' next' on')
 alike_by nothing start start' next next' on on' s n o = λ i. record { reader = (o i).reader; taken = (o i).taken + 1; heard = (o i).heard }
 alike_by (event outcome size) start start' next next' on on' s n o =
-    λ i. record { reader = n i; taken = 1; heard = Event (answer_for outcome) (s i) size }
+    λ i. record { reader = n i; taken = 1; heard = Event outcome (s i) size }
 
 pub alike : (order : Order) (held : List ℕ) (fed fed' stray stray' : ℕ) (piece : List ℕ) → length held ≤ places → fed % 2 ^ 32 ≡ fed' % 2 ^ 32 → stray % 2 ^ 32 ≡ stray' % 2 ^ 32
     → Alike order held fed fed' stray stray' piece

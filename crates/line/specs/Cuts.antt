@@ -2,9 +2,8 @@
 use Rattle.std.specs.Prelude.{◌≡◌, ℕ, zero, suc, List, [], ◌∷◌, ◌++◌, length, drop}
 use Prim.{Unit}
 use Rattle.line.specs.declared.Reader.{Reader}
-use Rattle.line.specs.declared.Fed.{Fed}
-use Rattle.line_rules.specs.declared.Heard.{Heard}
-use Rattle.line.specs.Readers.{feed_reader}
+use Rattle.line_rules.specs.Hearing.{Heard}
+use Rattle.line.specs.Readers.{feed_reader, Fed}
 use Rattle.line_rules.specs.Events.{heard_then}
 
 -- what calls on one piece leave: "the caller passes on the rest of the piece that it hasn't taken"

@@ -3,9 +3,8 @@ use Rattle.std.specs.Prelude.{◌≡◌, ℕ, ◌+◌, ◌-◌, ◌%◌, ◌^◌
 use Rattle.trailer_rules.specs.declared.Order.{Order}
 use Rattle.trailer_rules.specs.declared.Order.TheVariants.{AsPrinted}
 use Rattle.line.specs.declared.Reader.{Reader}
-use Rattle.line.specs.declared.Fed.{Fed}
-use Rattle.line_rules.specs.declared.Heard.TheVariants.{Nothing}
-use Rattle.line.specs.Readers.{reader_with, reader_of, line_of, fresh_in, fresh_reader, well_formed, AsDeclared, feed_reader, end_reader}
+use Rattle.line_rules.specs.Hearing.{Nothing}
+use Rattle.line.specs.Readers.{reader_with, reader_of, line_of, fresh_in, fresh_reader, well_formed, AsDeclared, feed_reader, end_reader, Fed}
 use Rattle.line_rules.specs.Line.{Line, fresh_line}
 use Rattle.line_rules.specs.Events.{events_of, line_after, heard_then}
 use Rattle.line.specs.Cuts.{Calls, feeding, Served, bytes_served, heard_of, reader_behind, AllUsedUp, serve, heard_from, reader_after, UsedUp}

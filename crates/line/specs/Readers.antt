@@ -3,9 +3,9 @@ use Rattle.std.specs.Prelude.{◌≡◌, ℕ, ◌-◌, ◌%◌, ◌^◌, ◌<◌
 use Rattle.trailer_rules.specs.declared.Order.{Order}
 use Rattle.trailer_rules.specs.declared.Order.TheVariants.{AsPrinted}
 use Rattle.line.specs.declared.Reader.{Reader}
-use Rattle.line_rules.specs.declared.Heard.TheVariants.{Refused}
-use Rattle.line.specs.declared.Fed.{Fed}
-use Rattle.line.specs.declared.Ended.{Ended}
+use Rattle.line_rules.specs.Hearing.{Heard, Refused, heard_as}
+use Rattle.line.specs.declared.Fed as fed_code
+use Rattle.line.specs.declared.Ended as ended_code
 use Rattle.line_rules.specs.Line.{Feeding, Line, ended, feed_at, heard_for, is_started, line_with, places, start_of, told_by_end}
 
 abbrev pub reader_with : List ℕ → ℕ → ℕ → ℕ → ℕ → Order → Reader
@@ -50,7 +50,23 @@ well_formed = well_formed_at places
 abbrev pub AsDeclared : Reader → Type 0
 AsDeclared reader = (length reader.held ≡ places) × (reader.fed < 2 ^ 32) × (reader.stray < 2 ^ 32)
 
--- what a call hands out
+-- what a call gives, in the paper's numbers
+pub record Fed : Type 0 where
+  pub reader : Reader
+  pub taken : ℕ
+  pub heard : Heard
+
+pub record Ended : Type 0 where
+  pub reader : Reader
+  pub heard : Heard
+
+-- what the code hands out
+abbrev pub fed_as : fed_code.Fed → Fed
+fed_as fed = record { reader = fed.reader; taken = fed.taken; heard = heard_as fed.heard }
+
+abbrev pub ended_as : ended_code.Ended → Ended
+ended_as ended = record { reader = ended.reader; heard = heard_as ended.heard }
+
 abbrev pub fed_at : ℕ → Feeding → Fed
 fed_at bound feeding =
     record { reader = reader_at bound feeding.line; taken = feeding.taken; heard = heard_for feeding.told feeding.at }

@@ -1,8 +1,7 @@
 -- Document 02 d, "Faster through stray bytes": what a reader gives, behind bytes that it skipped.
 use Rattle.std.specs.Prelude.{◌≡◌, ℕ, ◌+◌, false, List, [], ◌++◌, length}
 use Rattle.trailer_rules.specs.declared.Order.{Order}
-use Rattle.line.specs.declared.Fed.{Fed}
-use Rattle.line.specs.Readers.{reader_of, feed_reader}
+use Rattle.line.specs.Readers.{reader_of, feed_reader, Fed}
 use Rattle.line_rules.specs.Line.{line_with}
 use Rattle.line_rules.specs.Runs.{has_stx}
 

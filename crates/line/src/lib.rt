@@ -7,15 +7,14 @@ mod runs;
 mod skip;
 
 ghost use Rattle.std.specs.Prelude.{◌≡◌, ◌+◌, ◌%◌, ◌^◌, ◌<◌, true, [], ◌∷◌, length, take, drop};
-ghost use Rattle.line_rules.specs.declared.Heard.TheVariants.{Refused};
-ghost use Rattle.line.specs.Readers.{reader_with, fresh_in, fresh_reader, well_formed, reader_of, feed_reader, end_reader, all_zero};
+ghost use Rattle.line_rules.specs.Hearing.{Refused};
+ghost use Rattle.line.specs.Readers.{fed_as, ended_as, fresh_in, fresh_reader, well_formed, reader_of, feed_reader, end_reader, all_zero};
 ghost use Rattle.line_rules.specs.Line.{line_with, is_started};
 ghost use Rattle.line_rules.specs.Runs.{stray_run, WholeAt};
 ghost use Rattle.ascii.specs.Control.{stx};
 
-pub use line_rules::Heard;
-use record::RecordAnswer;
-use refusals::{ENDED_INSIDE, STATE_ILL_FORMED, STX_INSIDE, TOO_LONG};
+pub use line_rules::{Event, Heard};
+use refusals::Refusal;
 use std::num::{wrapping_add_u32, wrapping_sub_u32};
 use telegram::{ETX, STX};
 use trailer::Order;
@@ -25,7 +24,7 @@ pub const PLACES: usize = 38;
 
 const LONGEST: u32 = PLACES as u32 + 1;
 
-#[derive(Clone, Copy)]
+#[derive(Clone, Copy, Debug, PartialEq, Eq)]
 pub struct Reader {
     // The bytes of a started telegram, and zeros behind them.
     pub held: [u8; PLACES],
@@ -38,67 +37,38 @@ pub struct Reader {
     pub order: Order,
 }
 
-#[derive(Clone, Copy)]
+#[derive(Clone, Copy, Debug, PartialEq, Eq)]
 pub struct Fed {
     pub reader: Reader,
     pub taken: usize,
     pub heard: Heard,
 }
 
-#[derive(Clone, Copy)]
+#[derive(Clone, Copy, Debug, PartialEq, Eq)]
 pub struct Ended {
     pub reader: Reader,
     pub heard: Heard,
 }
 
-// Whether the first `len` bytes are a started telegram, or none.
-fn is_started(held: [u8; PLACES], len: usize) -> bool
-    ensures { result ≡ is_started (take len held) }
+// Whether these bytes are a started telegram, or none.
+fn is_started(held: &[u8]) -> bool
+    ensures { result ≡ is_started held.now }
 {
-    if len == 0 {
-        return true;
+    match held {
+        [] => true,
+        [first, rest @ ..] => *first == STX && rest.iter().all(|byte| runs::is_plain(*byte)),
     }
-    if held[0] != STX {
-        return false;
-    }
-    let mut at: usize = 1;
-    while at < len && at < PLACES {
-        if !runs::is_plain(held[at]) {
-            return false;
-        }
-        at += 1;
-    }
-    true
 }
 
-// Whether every place is zero. None of them ends the loop, so that the compiler compares many at once.
-fn is_zero(held: [u8; PLACES]) -> bool
-    ensures { result ≡ all_zero held }
+// Whether nothing but zeros stands here.
+fn is_zero(held: &[u8]) -> bool
+    ensures { result ≡ all_zero held.now }
 {
     let mut zeros = true;
-    let mut at: usize = 0;
-    while at < PLACES {
-        zeros = zeros & (held[at] == 0);
-        at += 1;
+    for byte in held {
+        zeros &= *byte == 0;
     }
     zeros
-}
-
-// Whether nothing but zeros stands from `len` on. Outside a telegram, where most calls are made, that is every place.
-fn is_zero_from(held: [u8; PLACES], len: usize) -> bool
-    ensures { result ≡ all_zero (drop len held) }
-{
-    if len == 0 {
-        return is_zero(held);
-    }
-    let mut at = len;
-    while at < PLACES {
-        if held[at] != 0 {
-            return false;
-        }
-        at += 1;
-    }
-    true
 }
 
 // A count that wraps.
@@ -108,172 +78,173 @@ fn moved(count: u32, by: usize) -> u32
     wrapping_add_u32(count, (by % 4294967296) as u32)
 }
 
-// Every reader is built here.
-fn reader_with(
-    held: [u8; PLACES],
-    len: usize,
-    fed: u32,
-    stray: u32,
-    start: u32,
-    order: Order,
-) -> Reader
-    ensures { result ≡ reader_with held len fed stray start order }
-{
-    Reader {
-        held: held,
-        len: len,
-        fed: fed,
-        stray: stray,
-        start: start,
-        order: order,
-    }
-}
-
-// A reader outside a telegram.
-fn outside(fed: u32, stray: u32, order: Order) -> Reader
-    ensures { result ≡ reader_of (line_with [] fed stray order) }
-{
-    reader_with([0u8; PLACES], 0, fed, stray, fed, order)
-}
-
-// A reader that holds the STX it was fed last.
-fn begun(fed: u32, stray: u32, order: Order) -> Reader
-    ensures { result ≡ reader_of (line_with (stx ∷ []) fed stray order) }
-{
-    let mut held = [0u8; PLACES];
-    held[0] = STX;
-    reader_with(held, 1, fed, stray, wrapping_sub_u32(fed, 1), order)
-}
-
 // A state that is not well formed comes back as it was.
 fn refused(state: Reader) -> Fed
-    ensures { result ≡ record { reader = state; taken = 0; heard = Refused 15 } }
+    ensures { fed_as result ≡ record { reader = state; taken = 0; heard = Refused 15 } }
 {
     Fed {
         reader: state,
         taken: 0,
-        heard: Heard::Refused(STATE_ILL_FORMED),
+        heard: Err(Refusal::StateIllFormed),
     }
-}
-
-// Inside a telegram: plain bytes are held at once, and the byte behind them tells.
-fn feed_inside(reader: Reader, piece: &[u8]) -> Fed
-    requires { (well_formed reader ≡ true) × (0 < reader.len) }
-    ensures { result ≡ feed_reader reader piece.now }
-{
-    let held = reader.held;
-    let gathered = runs::gather(held, reader.len, piece);
-    let added = gathered.added;
-    let all = gathered.held;
-    let len = reader.len + added;
-    let stray = reader.stray;
-    let start = reader.start;
-    let order = reader.order;
-    if added == piece.len() {
-        return Fed {
-            reader: reader_with(all, len, moved(reader.fed, added), stray, start, order),
-            taken: added,
-            heard: Heard::Nothing,
-        };
-    }
-    let byte = piece[added];
-    let taken = added + 1;
-    let fed = moved(reader.fed, taken);
-    let size = len as u32;
-    if byte == ETX {
-        let answer = judge::judge(all, len, order);
-        let whole = size + 1;
-        return Fed {
-            reader: outside(fed, stray, order),
-            taken: taken,
-            heard: Heard::Event(answer, start, whole),
-        };
-    }
-    if byte == STX {
-        return Fed {
-            reader: begun(fed, stray, order),
-            taken: taken,
-            heard: Heard::Event(RecordAnswer::Refused(STX_INSIDE), start, size),
-        };
-    }
-    Fed {
-        reader: outside(fed, stray, order),
-        taken: taken,
-        heard: Heard::Event(RecordAnswer::Refused(TOO_LONG), start, LONGEST),
-    }
-}
-
-// Outside a telegram, with an STX behind so many stray bytes: it begins a telegram, and what follows is fed to that.
-fn feed_begun(fed: u32, stray: u32, order: Order, skipped: usize, piece: &[u8]) -> Fed
-    requires { (skipped ≡ stray_run piece.now) × (skipped < length piece.now) }
-    ensures { result ≡ feed_reader (reader_of (line_with [] fed stray order)) piece.now }
-{
-    let length = piece.len();
-    let first = skipped + 1;
-    let inside = begun(moved(fed, first), moved(stray, skipped), order);
-    let later = feed_inside(inside, &piece[first..length]);
-    let taken = first + later.taken;
-    let reader = later.reader;
-    let heard = later.heard;
-    Fed {
-        reader: reader,
-        taken: taken,
-        heard: heard,
-    }
-}
-
-// A telegram that stands whole in the piece, its ETX at `end`: it is read where it stands, and none of its bytes is held.
-fn feed_whole(fed: u32, stray: u32, order: Order, skipped: usize, end: usize, piece: &[u8]) -> Fed
-    requires { WholeAt piece.now skipped end }
-    ensures { result ≡ feed_reader (reader_of (line_with [] fed stray order)) piece.now }
-{
-    let taken = end + 1;
-    let answer = telegram::read::read_in(&piece[skipped..taken], true, order);
-    let size = taken - skipped;
-    Fed {
-        reader: outside(moved(fed, taken), moved(stray, skipped), order),
-        taken: taken,
-        heard: Heard::Event(answer, moved(fed, skipped), size as u32),
-    }
-}
-
-// Outside a telegram, with an STX behind so many stray bytes: the byte behind the plain ones tells whether a whole telegram stands there.
-fn feed_from_stx(fed: u32, stray: u32, order: Order, skipped: usize, piece: &[u8]) -> Fed
-    requires { (skipped ≡ stray_run piece.now) × (skipped < length piece.now) }
-    ensures { result ≡ feed_reader (reader_of (line_with [] fed stray order)) piece.now }
-{
-    let length = piece.len();
-    let first = skipped + 1;
-    let end = first + runs::roomy_run(1, &piece[first..length]);
-    if end == length {
-        return feed_begun(fed, stray, order, skipped, piece);
-    }
-    if piece[end] != ETX {
-        return feed_begun(fed, stray, order, skipped, piece);
-    }
-    feed_whole(fed, stray, order, skipped, end, piece)
-}
-
-// Outside a telegram: the bytes before the first STX are stray, and counted at once. Where telegrams stand one behind another
-// there are none, so the first byte is looked at before any block.
-fn feed_outside(fed: u32, stray: u32, order: Order, piece: &[u8]) -> Fed
-    ensures { result ≡ feed_reader (reader_of (line_with [] fed stray order)) piece.now }
-{
-    if skip::begins_with_stx(piece) {
-        return feed_from_stx(fed, stray, order, 0, piece);
-    }
-    let skipped = skip::stray_run(piece);
-    if skipped == piece.len() {
-        return Fed {
-            reader: outside(moved(fed, skipped), moved(stray, skipped), order),
-            taken: skipped,
-            heard: Heard::Nothing,
-        };
-    }
-    feed_from_stx(fed, stray, order, skipped, piece)
 }
 
 impl Reader {
+    // The reader outside a telegram, so many bytes on, and so many of them stray.
+    fn outside(self, taken: usize, skipped: usize) -> Reader
+        ensures { result ≡ reader_of (line_with [] ((self.fed + taken) % 2 ^ 32) ((self.stray + skipped) % 2 ^ 32) self.order) }
+    {
+        let fed = moved(self.fed, taken);
+        Reader {
+            held: [0; PLACES],
+            len: 0,
+            fed,
+            stray: moved(self.stray, skipped),
+            start: fed,
+            order: self.order,
+        }
+    }
+
+    // The same with an STX for the last byte that it was fed, which it holds.
+    fn begun(self, taken: usize, skipped: usize) -> Reader
+        ensures { result ≡ reader_of (line_with (stx ∷ []) ((self.fed + taken) % 2 ^ 32) ((self.stray + skipped) % 2 ^ 32) self.order) }
+    {
+        let fed = moved(self.fed, taken);
+        let mut held = [0; PLACES];
+        held[0] = STX;
+        Reader {
+            held,
+            len: 1,
+            fed,
+            stray: moved(self.stray, skipped),
+            start: wrapping_sub_u32(fed, 1),
+            order: self.order,
+        }
+    }
+
+    // Inside a telegram: plain bytes are held at once, and the byte behind them tells.
+    fn feed_inside(self, piece: &[u8]) -> Fed
+        requires { (well_formed self ≡ true) × (0 < self.len) }
+        ensures { fed_as result ≡ feed_reader self piece.now }
+    {
+        let gathered = runs::gather(self.held, self.len, piece);
+        let held = gathered.held;
+        let added = gathered.added;
+        let len = self.len + added;
+        if added == piece.len() {
+            return Fed {
+                reader: Reader {
+                    held,
+                    len,
+                    fed: moved(self.fed, added),
+                    ..self
+                },
+                taken: added,
+                heard: Ok(None),
+            };
+        }
+        let byte = piece[added];
+        let taken = added + 1;
+        let size = len as u32;
+        if byte == ETX {
+            let answer = judge::judge(held, len, self.order);
+            return Fed {
+                reader: self.outside(taken, 0),
+                taken,
+                heard: Ok(Some(Event {
+                    answer,
+                    start: self.start,
+                    size: size + 1,
+                })),
+            };
+        }
+        if byte == STX {
+            return Fed {
+                reader: self.begun(taken, 0),
+                taken,
+                heard: Ok(Some(Event {
+                    answer: Err(Refusal::StxInside),
+                    start: self.start,
+                    size,
+                })),
+            };
+        }
+        Fed {
+            reader: self.outside(taken, 0),
+            taken,
+            heard: Ok(Some(Event {
+                answer: Err(Refusal::TooLong),
+                start: self.start,
+                size: LONGEST,
+            })),
+        }
+    }
+
+    // Outside a telegram, with an STX behind so many stray bytes: it begins a telegram, and what follows is fed to that.
+    fn feed_begun(self, skipped: usize, piece: &[u8]) -> Fed
+        requires { (skipped ≡ stray_run piece.now) × (skipped < length piece.now) }
+        ensures { fed_as result ≡ feed_reader (reader_of (line_with [] self.fed self.stray self.order)) piece.now }
+    {
+        let first = skipped + 1;
+        let later = self.begun(first, skipped).feed_inside(&piece[first..]);
+        Fed {
+            taken: first + later.taken,
+            ..later
+        }
+    }
+
+    // A telegram that stands whole in the piece, its ETX at `end`: it is read where it stands, and none of its bytes is held.
+    fn feed_whole(self, skipped: usize, end: usize, piece: &[u8]) -> Fed
+        requires { WholeAt piece.now skipped end }
+        ensures { fed_as result ≡ feed_reader (reader_of (line_with [] self.fed self.stray self.order)) piece.now }
+    {
+        let taken = end + 1;
+        let answer = telegram::read::read_in(&piece[skipped..taken], true, self.order);
+        let size = taken - skipped;
+        Fed {
+            reader: self.outside(taken, skipped),
+            taken,
+            heard: Ok(Some(Event {
+                answer,
+                start: moved(self.fed, skipped),
+                size: size as u32,
+            })),
+        }
+    }
+
+    // Outside a telegram, with an STX behind so many stray bytes: the byte behind the plain ones tells whether a whole telegram stands there.
+    fn feed_from_stx(self, skipped: usize, piece: &[u8]) -> Fed
+        requires { (skipped ≡ stray_run piece.now) × (skipped < length piece.now) }
+        ensures { fed_as result ≡ feed_reader (reader_of (line_with [] self.fed self.stray self.order)) piece.now }
+    {
+        let first = skipped + 1;
+        let end = first + runs::roomy_run(1, &piece[first..]);
+        if end < piece.len() && piece[end] == ETX {
+            self.feed_whole(skipped, end, piece)
+        } else {
+            self.feed_begun(skipped, piece)
+        }
+    }
+
+    // Outside a telegram: the bytes before the first STX are stray, and counted at once. Where telegrams stand one behind another
+    // there are none, so the first byte is looked at before any block.
+    fn feed_outside(self, piece: &[u8]) -> Fed
+        ensures { fed_as result ≡ feed_reader (reader_of (line_with [] self.fed self.stray self.order)) piece.now }
+    {
+        if skip::begins_with_stx(piece) {
+            return self.feed_from_stx(0, piece);
+        }
+        let skipped = skip::stray_run(piece);
+        if skipped == piece.len() {
+            return Fed {
+                reader: self.outside(skipped, skipped),
+                taken: skipped,
+                heard: Ok(None),
+            };
+        }
+        self.feed_from_stx(skipped, piece)
+    }
+
     // A reader that was fed nothing, of a line whose trailers stand as printed.
     pub fn fresh() -> Reader
         ensures { result ≡ fresh_reader }
@@ -285,66 +256,73 @@ impl Reader {
     pub fn fresh_in(order: Order) -> Reader
         ensures { result ≡ fresh_in order }
     {
-        outside(0, 0, order)
+        Reader {
+            held: [0; PLACES],
+            len: 0,
+            fed: 0,
+            stray: 0,
+            start: 0,
+            order,
+        }
     }
 
     // Whether a state is one that feeding leads to; any other is refused.
     pub fn is_well_formed(self) -> bool
         ensures { result ≡ well_formed self }
     {
-        let held = self.held;
-        let len = self.len;
-        if PLACES < len {
+        if self.len == 0 {
+            return is_zero(&self.held) && self.start == self.fed;
+        }
+        if self.len > PLACES {
             return false;
         }
-        if !is_started(held, len) {
+        if !is_started(&self.held[..self.len]) {
             return false;
         }
-        if !is_zero_from(held, len) {
+        if !is_zero(&self.held[self.len..]) {
             return false;
         }
-        self.start == wrapping_sub_u32(self.fed, len as u32)
+        self.start == wrapping_sub_u32(self.fed, self.len as u32)
     }
 
     // Feeds bytes as they come, up to the first event. What was not taken is to be fed next.
     pub fn feed(self, piece: &[u8]) -> Fed
-        ensures { result ≡ feed_reader self piece.now }
+        ensures { fed_as result ≡ feed_reader self piece.now }
     {
         if !self.is_well_formed() {
             return refused(self);
         }
         if self.len == 0 {
-            let order = self.order;
-            return feed_outside(self.fed, self.stray, order, piece);
+            self.feed_outside(piece)
+        } else {
+            self.feed_inside(piece)
         }
-        feed_inside(self, piece)
     }
 
     // The end of the line.
     pub fn end(self) -> Ended
-        ensures { result ≡ end_reader self }
+        ensures { ended_as result ≡ end_reader self }
     {
         if !self.is_well_formed() {
             return Ended {
                 reader: self,
-                heard: Heard::Refused(STATE_ILL_FORMED),
+                heard: Err(Refusal::StateIllFormed),
             };
         }
-        let order = self.order;
-        let reader = outside(self.fed, self.stray, order);
+        let reader = self.outside(0, 0);
         if self.len == 0 {
             return Ended {
-                reader: reader,
-                heard: Heard::Nothing,
+                reader,
+                heard: Ok(None),
             };
         }
         Ended {
-            reader: reader,
-            heard: Heard::Event(
-                RecordAnswer::Refused(ENDED_INSIDE),
-                self.start,
-                self.len as u32,
-            ),
+            reader,
+            heard: Ok(Some(Event {
+                answer: Err(Refusal::EndedInside),
+                start: self.start,
+                size: self.len as u32,
+            })),
         }
     }
 }

@@ -1,77 +1,64 @@
 // A whole piece used up: the unread end of it is fed again from its middle until nothing is left, and each event is handed on.
 ghost use Rattle.std.specs.Prelude.{◌≡◌};
-ghost use Rattle.line.specs.Pieces.{room, passed_for, passing};
+ghost use Rattle.line.specs.Pieces.{room, passed_as, passed_for, passing};
 
-use super::{Heard, Reader};
-use refusals::NONE;
+use super::{Event, Reader};
+use refusals::Refusal;
 
 // How many events one call has room for.
 pub const ROOM: usize = 32;
 
-// One event handed on; nothing where none is.
-#[derive(Clone, Copy)]
-pub struct Slot {
-    pub heard: Heard,
-}
-
 // The events of a piece in their order. A byte gives at most one event, so of a piece of at most `ROOM` bytes nothing is
 // left; of a longer one the bytes from `taken` on are left where `ROOM` events stand before its end.
-#[derive(Clone, Copy)]
+#[derive(Clone, Copy, Debug, PartialEq, Eq)]
 pub struct Passed {
-    pub slots: [Slot; ROOM],
+    // So many events, and nothing behind them.
+    pub events: [Option<Event>; ROOM],
     pub count: usize,
     pub reader: Reader,
     pub taken: usize,
-    // 15 for a state that is not well formed, else 0.
-    pub refusal: u8,
+    // Why the state was refused, if it was.
+    pub refusal: Option<Refusal>,
 }
 
-// Feeds a piece again and again from where the last call stopped, until it is used up or every slot is taken.
+// Feeds a piece again and again from where the last call stopped, until it is used up or every place is taken.
 pub fn use_up(reader: Reader, piece: &[u8]) -> Passed
-    ensures { result ≡ passed_for (passing room reader piece.now) }
+    ensures { passed_as result ≡ passed_for (passing room reader piece.now) }
 {
-    let length = piece.len();
-    let mut slots = [Slot {
-        heard: Heard::Nothing,
-    }; ROOM];
-    let mut count: usize = 0;
-    let mut next = reader;
-    let mut taken: usize = 0;
-    while count < ROOM {
-        let fed = next.feed(&piece[taken..length]);
-        let heard = fed.heard;
-        next = fed.reader;
+    let mut events = [None; ROOM];
+    let mut reader = reader;
+    let mut taken = 0;
+    for count in 0..ROOM {
+        let fed = reader.feed(&piece[taken..]);
+        reader = fed.reader;
         taken += fed.taken;
-        match heard {
-            Heard::Nothing => {
+        match fed.heard {
+            Ok(Some(event)) => events[count] = Some(event),
+            Ok(None) => {
                 return Passed {
-                    slots: slots,
-                    count: count,
-                    reader: next,
-                    taken: taken,
-                    refusal: NONE,
+                    events,
+                    count,
+                    reader,
+                    taken,
+                    refusal: None,
                 };
             }
-            Heard::Refused(number) => {
+            Err(refusal) => {
                 return Passed {
-                    slots: slots,
-                    count: count,
-                    reader: next,
-                    taken: taken,
-                    refusal: number,
+                    events,
+                    count,
+                    reader,
+                    taken,
+                    refusal: Some(refusal),
                 };
-            }
-            Heard::Event(_, _, _) => {
-                slots[count] = Slot { heard: heard };
-                count += 1;
             }
         }
     }
     Passed {
-        slots: slots,
-        count: count,
-        reader: next,
-        taken: taken,
-        refusal: NONE,
+        events,
+        count: ROOM,
+        reader,
+        taken,
+        refusal: None,
     }
 }

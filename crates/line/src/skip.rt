@@ -1,6 +1,6 @@
 // Stray bytes at the front of a piece, skipped to the next STX: block after block, and then byte after byte.
 ghost use Rattle.std.specs.Prelude.{◌≡◌, ◌+◌, drop};
-ghost use Rattle.line_rules.specs.Runs.{begins_with_stx, has_stx, stray_run};
+ghost use Rattle.line_rules.specs.Runs.{begins_with_stx, stray_run};
 
 use telegram::STX;
 
@@ -11,35 +11,17 @@ const BLOCK: usize = 64;
 pub(crate) fn begins_with_stx(piece: &[u8]) -> bool
     ensures { result ≡ begins_with_stx piece.now }
 {
-    if piece.len() == 0 {
-        return false;
-    }
-    piece[0] == STX
-}
-
-// Whether an STX stands among these bytes. No byte ends the loop, so that the compiler compares many of them at once.
-fn has_stx(bytes: &[u8]) -> bool
-    ensures { result ≡ has_stx bytes.now }
-{
-    let length = bytes.len();
-    let mut found = false;
-    let mut at: usize = 0;
-    while at < length {
-        found = found | (bytes[at] == STX);
-        at += 1;
-    }
-    found
+    matches!(piece, [STX, ..])
 }
 
 // How many bytes stand in the blocks before the first that has an STX, or that the piece does not fill.
 fn stray_blocks(piece: &[u8]) -> usize
     ensures { result + stray_run (drop result piece.now) ≡ stray_run piece.now }
 {
-    let length = piece.len();
-    let mut at: usize = 0;
-    while BLOCK <= length - at {
+    let mut at = 0;
+    while BLOCK <= piece.len() - at {
         let end = at + BLOCK;
-        if has_stx(&piece[at..end]) {
+        if piece[at..end].contains(&STX) {
             return at;
         }
         at = end;
@@ -51,22 +33,16 @@ fn stray_blocks(piece: &[u8]) -> usize
 fn stray_bytes(piece: &[u8]) -> usize
     ensures { result ≡ stray_run piece.now }
 {
-    let length = piece.len();
-    let mut at: usize = 0;
-    while at < length {
-        if piece[at] == STX {
-            return at;
-        }
-        at += 1;
-    }
-    at
+    piece
+        .iter()
+        .position(|byte| *byte == STX)
+        .unwrap_or(piece.len())
 }
 
 // How many bytes stand before the first STX.
 pub(crate) fn stray_run(piece: &[u8]) -> usize
     ensures { result ≡ stray_run piece.now }
 {
-    let length = piece.len();
     let skipped = stray_blocks(piece);
-    skipped + stray_bytes(&piece[skipped..length])
+    skipped + stray_bytes(&piece[skipped..])
 }

@@ -11,7 +11,7 @@ use borrow.Author.Tests.{leb-true}
 use Rattle.refusals.specs.Refusals.{refused}
 use Rattle.ascii.specs.Control.{stx, etx}
 use Rattle.trailer_rules.specs.declared.Order.{Order}
-use Rattle.line_rules.specs.declared.Heard.{Heard}
+use Rattle.line_rules.specs.Hearing.{Heard}
 use Rattle.line_rules.specs.Line.{places, judgement, Line, Told, nothing, event, held_after, told_by, stray_by, step, start_of, fresh_line, told_by_end, heard_for}
 use Rattle.line_rules.specs.Events.{tells, events_of, line_after, heard_then}
 use Rattle.line_rules.specs.Account.{event_size, lengths_of, strays_of, sizes_of}

@@ -6,7 +6,7 @@ use native.Mathlib.Numerals.{add-one}
 use native.Mathlib.Omega.{arith}
 use lib.ListN.{length, drop, length-drop}
 use Rattle.trailer_rules.specs.declared.Order.{Order}
-use Rattle.line_rules.specs.declared.Heard.{Heard}
+use Rattle.line_rules.specs.Hearing.{Heard}
 use Rattle.line_rules.specs.Line.{places, Line, Told, nothing, event, Feeding, stop_or, feed_of, told_by, step, start_of, heard_for, fresh_line}
 use Rattle.line_rules.specs.Events.{tells, events_of, line_after, heard_then}
 use Rattle.line_rules.proofs.GoodLines.{Good, good_after_at}

@@ -10,3 +10,4 @@ pub mod SentencesHold
 pub mod SkippingHolds
 pub mod LongerTelegramsHold
 pub mod OrderStays
+pub mod Whole

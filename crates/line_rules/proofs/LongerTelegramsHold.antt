@@ -8,16 +8,16 @@ use lib.Dec.{eqb}
 use lib.ListN.{length}
 use borrow.Author.Tests.{not-true, le-leb}
 use Rattle.refusals.proofs.Laws.{both}
-use Rattle.record_rules.specs.declared.RecordAnswer.TheVariants as answer
 use Rattle.trailer_rules.specs.declared.Order.{Order}
 use Rattle.telegram_rules.specs.Reading.{read_in}
 use Rattle.ascii.specs.Control.{stx, etx}
-use Rattle.line_rules.specs.declared.Heard.TheVariants.{Event}
-use Rattle.line_rules.specs.Line.{places, Line, line_with, fresh_line, all_plain, answer_for}
+use Rattle.line_rules.specs.Hearing.{Event}
+use Rattle.line_rules.specs.Line.{places, Line, line_with, fresh_line, all_plain}
 use Rattle.line_rules.specs.Events.{events_of, line_after}
 use Rattle.line_rules.specs.LongerTelegrams.{UpTo38BytesAreHeld, StxCutsOffUpTo38, TenIsGivenWhen38AreHeld, UpTo39BytesAreJudged}
 use Rattle.line_rules.proofs.EventLaws.{events_join, after_join}
 use Rattle.line_rules.proofs.SentLaws.{plain_gives}
+use Rattle.refusals.specs.Refusals.{refused}
 
 module _ (order : Order) (body : List ℕ) (plain : all_plain body ≡ true) (room : length body ≤ 37) where
   abbrev pub held : Line
@@ -45,7 +45,7 @@ pub stx_cuts_off_up_to_38 : StxCutsOffUpTo38
 stx_cuts_off_up_to_38 order body plain room =
     let size : suc (length body) ≡ length body + 1 = omega arith in (
       then_tells order body plain room stx
-          ∙ ap₂ (λ start size. Event (answer.Refused 9) start size ∷ []) (begins_at_0 (length body) room) size,
+          ∙ ap₂ (λ start size. Event (refused 9) start size ∷ []) (begins_at_0 (length body) room) size,
       ap (λ line. line.held) (then_is order body plain room stx),
     )
 
@@ -57,7 +57,7 @@ ten_is_given_when_38_are_held order body byte plain full other =
     let is_etx = not-true (eqb byte etx) apart.1 in
     let is_full_law = le-leb places (length (stx ∷ body)) (omega arith) in (
       then_tells order body plain room byte
-          ∙ rw (is_etx, is_stx, is_full_law) (ap (λ start. Event (answer.Refused 10) start 39 ∷ []) (begins_at_0 (length body) room)),
+          ∙ rw (is_etx, is_stx, is_full_law) (ap (λ start. Event (refused 10) start 39 ∷ []) (begins_at_0 (length body) room)),
       ap (λ line. line.held) (then_is order body plain room byte) ∙ rw (is_etx, is_stx, is_full_law),
     )
 
@@ -65,4 +65,4 @@ pub up_to_39_bytes_are_judged : UpTo39BytesAreJudged
 up_to_39_bytes_are_judged order body plain room =
     let size : suc (length body) + 1 ≡ length body + 2 = omega arith in
     then_tells order body plain room etx
-    ∙ ap₂ (λ start size. Event (answer_for (read_in order true (stx ∷ body ++ etx ∷ []))) start size ∷ []) (begins_at_0 (length body) room) size
+    ∙ ap₂ (λ start size. Event ((read_in order true (stx ∷ body ++ etx ∷ []))) start size ∷ []) (begins_at_0 (length body) room) size

@@ -10,13 +10,14 @@ use lib.ListN.{length, drop, length-append}
 use lib.Seq.{drop-append_seam}
 use borrow.Author.Tests.{eqb-true}
 use Rattle.ascii.specs.Control.{stx, etx}
-use Rattle.line_rules.specs.Line.{places, Line, held_after, step, fresh_line, Told, nothing, event, told_by, start_of, answer_for}
+use Rattle.line_rules.specs.Line.{places, Line, held_after, step, fresh_line, Told, nothing, event, told_by, start_of}
 use Rattle.line_rules.specs.Events.{line_after, tells}
-use Rattle.record_rules.specs.declared.RecordAnswer.{RecordAnswer}
-use Rattle.line_rules.specs.declared.Heard.TheVariants.{Event}
+use Rattle.line_rules.specs.Hearing.{Event}
 use Rattle.line_rules.specs.Sentences.{TheStartIsWhereTheHeldBegin, AnEventCarriesThatPosition}
 use Rattle.line_rules.proofs.EventLaws.{good_fresh, good_after}
 use Rattle.line_rules.proofs.AccountLaws.{fed_counts}
+use Rattle.refusals.specs.Refusals.{Outcome}
+use Rattle.record_rules.specs.declared.Record.{Record}
 
 -- bytes that end with those held
 record Last (bytes held : List ℕ) : Type 0 where
@@ -69,6 +70,6 @@ an_event_carries_that_position order bytes byte =
     go (told_by line.order line.held byte) (start_of line) (the_start_is_where_the_held_begin order bytes).1
   where
     go : (told : Told) (start : ℕ) {begin : ℕ} → start ≡ begin
-        → (tells told start [] ≡ []) ⊎ ((answer : RecordAnswer) × (size : ℕ) × (tells told start [] ≡ Event answer begin size ∷ []))
+        → (tells told start [] ≡ []) ⊎ ((answer : Outcome Record) × (size : ℕ) × (tells told start [] ≡ Event answer begin size ∷ []))
     go nothing start is = inl refl
-    go (event outcome size) start is = inr (answer_for outcome, size, ap (λ s. Event (answer_for outcome) s size ∷ []) is)
+    go (event outcome size) start is = inr (outcome, size, ap (λ s. Event outcome s size ∷ []) is)

@@ -3,67 +3,14 @@ use mathlib.Core.Path.{◌≡◌, refl, ap, sym, ◌∙◌}
 use mathlib.Core.Bool.{Bool, true, false, cond, ◌||◌, true≢false, false≢true}
 use mathlib.Core.List.{List, [], ◌∷◌, ◌++◌}
 use Prim.Native.Nat.{ℕ, zero, suc, ◌+◌, ◌-◌, ◌≤◌, ◌<◌}
-use native.Mathlib.Numerals.{add-one}
 use native.Mathlib.Omega.{arith}
-use lib.Dec.{eqb, ltb}
-use lib.ListN.{length, take, drop, get_or, drop_of_length-le, length-drop, take-append-drop}
-use lib.Seq.{drop-cons, drop-drop, length-take-le, take-nil}
-use borrow.Author.Tests.{eqb-true, ltb-true, ltb-false}
+use lib.Dec.{eqb}
+use lib.ListN.{length, take, drop, get_or, length-drop, take-append-drop}
+use lib.Seq.{drop-drop, length-take-le}
+use borrow.Author.Tests.{eqb-true}
 use Rattle.ascii.specs.Control.{stx}
-use Rattle.line_rules.specs.Line.{places, is_plain}
-use Rattle.line_rules.specs.Runs.{begins_with_stx, has_stx, stray_run, plain_run, roomy_run}
-
-module _ (piece : List ℕ) (at : ℕ) where
-  pub stray_end : length piece ≤ at → stray_run (drop at piece) ≡ 0
-  stray_end h = rw (drop_of_length-le piece h)
-
-  pub stray_byte : at < length piece → stray_run (drop at piece) ≡ cond (eqb (get_or piece at 0) stx) 0 (suc (stray_run (drop (at + 1) piece)))
-  stray_byte h = rw (drop-cons piece at 0 h, add-one)
-
-  pub stx_end : length piece ≤ at → has_stx (drop at piece) ≡ false
-  stx_end h = rw (drop_of_length-le piece h)
-
-  pub stx_byte : at < length piece → has_stx (drop at piece) ≡ (eqb (get_or piece at 0) stx || has_stx (drop (at + 1) piece))
-  stx_byte h = rw (drop-cons piece at 0 h, add-one)
-
-  run_end : (end : ℕ) → length piece ≤ at → roomy_run end (drop at piece) ≡ 0
-  run_end end h = rw (drop_of_length-le piece h) (ap plain_run (take-nil (places - end)))
-
-  run_byte : (end : ℕ) → end < places → at < length piece
-      → roomy_run end (drop at piece) ≡ cond (is_plain (get_or piece at 0)) (suc (roomy_run (end + 1) (drop (at + 1) piece))) 0
-  run_byte end room h =
-      let one_less : places - end ≡ suc (places - (end + 1)) = omega arith in
-      rw (drop-cons piece at 0 h, add-one at) (ap (λ n. plain_run (take n (get_or piece at 0 ∷ drop (suc at) piece))) one_less)
-
-  -- a plain byte is one more, and any other ends the run
-  pub run_on : (end : ℕ) → end < places → at < length piece → is_plain (get_or piece at 0) ≡ true
-      → roomy_run end (drop at piece) ≡ suc (roomy_run (end + 1) (drop (at + 1) piece))
-  run_on end room h plain = run_byte end room h ∙ ap (λ t. cond t (suc (roomy_run (end + 1) (drop (at + 1) piece))) 0) plain
-
-  pub run_stops : (end : ℕ) → end < places → at < length piece → is_plain (get_or piece at 0) ≡ false → roomy_run end (drop at piece) ≡ 0
-  run_stops end room h other = run_byte end room h ∙ ap (λ t. cond t (suc (roomy_run (end + 1) (drop (at + 1) piece))) 0) other
-
-run_full : (piece : List ℕ) (end : ℕ) → places ≤ end → roomy_run end piece ≡ 0
-run_full piece end full =
-    let none : places - end ≡ 0 = omega arith in
-    ap (λ n. plain_run (take n piece)) none
-
-not_less : (n m : ℕ) → (n < m → ⊥) → m ≤ n
-not_less n m none = go (ltb n m) refl
-  where
-    go : (less : Bool) → ltb n m ≡ less → m ≤ n
-    go true is = absurd (none (ltb-true n m is))
-    go false is = ltb-false n m is
-
--- a run is over where there is no room for a byte, or no byte
-pub run_over : (piece : List ℕ) (at end : ℕ) → (end < places → at < length piece → ⊥) → roomy_run end (drop at piece) ≡ 0
-run_over piece at end over = go (ltb end places) refl
-  where
-    go : (free : Bool) → ltb end places ≡ free → roomy_run end (drop at piece) ≡ 0
-    go true is =
-        let some = ltb-true end places is in
-        run_end piece at end (not_less at (length piece) (over some))
-    go false is = run_full (drop at piece) end (ltb-false end places is)
+use Rattle.line_rules.specs.Line.{is_plain}
+use Rattle.line_rules.specs.Runs.{begins_with_stx, has_stx, stray_run, plain_run}
 
 -- a run is no longer than its room and its piece
 abbrev pub Within : ℕ → ℕ → List ℕ → Type 0
@@ -104,14 +51,6 @@ stray_ends [] = (omega arith, λ more. absurd (omega arith))
 stray_ends (byte ∷ piece) = stray_on (eqb byte stx) (stray_run piece) byte piece refl (stray_ends piece)
 
 -- an STX in front: no run, and not for want of bytes
-pub begins_empty : (piece : List ℕ) → length piece ≡ 0 → begins_with_stx piece ≡ false
-begins_empty [] none = refl
-begins_empty (byte ∷ piece) none = absurd (omega (arith, none))
-
-pub begins_byte : (piece : List ℕ) → begins_with_stx piece ≡ eqb (get_or piece 0 0) stx
-begins_byte [] = refl
-begins_byte (byte ∷ piece) = refl
-
 pub begins_at_once : (piece : List ℕ) → begins_with_stx piece ≡ true → (0 ≡ stray_run piece) × (0 < length piece)
 begins_at_once [] begins = absurd (false≢true begins)
 begins_at_once (byte ∷ piece) begins = (ap (λ t. cond t 0 (suc (stray_run piece))) (sym begins), omega arith)

@@ -10,17 +10,15 @@ use lib.ListN.{length, length-append}
 use borrow.Author.Tests.{eqb-true}
 use Rattle.refusals.proofs.Laws.{both}
 use Rattle.record_rules.specs.declared.Record.{Record}
-use Rattle.record_rules.specs.declared.RecordAnswer.{RecordAnswer}
-use Rattle.record_rules.specs.declared.RecordAnswer.TheVariants as answer
+use Rattle.refusals.specs.Refusals.{Outcome, done, refused}
 use Rattle.record_rules.specs.Rule.{refusal_of}
 use Rattle.trailer_rules.specs.declared.Order.{Order}
 use Rattle.trailer_rules.specs.Trailer.{in_order}
 use Rattle.telegram_rules.specs.Writing.{body_bytes, telegram_in}
 use Rattle.telegram_rules.proofs.InOrder.{reads_back_law}
 use Rattle.ascii.specs.Control.{stx, etx}
-use Rattle.line_rules.specs.declared.Heard.{Heard}
-use Rattle.line_rules.specs.declared.Heard.TheVariants.{Nothing, Event, Refused}
-use Rattle.line_rules.specs.Line.{line_with, judgement, Line, answer_for}
+use Rattle.line_rules.specs.Hearing.{Heard, Nothing, Event, Refused}
+use Rattle.line_rules.specs.Line.{line_with, judgement, Line}
 use Rattle.line_rules.specs.Events.{events_of, line_after}
 use Rattle.line_rules.specs.SentLine.{Sent, bytes_sent, no_stx, all_good, events_sent, stray_sent}
 use Rattle.line_rules.proofs.FeedLaws.{outside}
@@ -41,29 +39,29 @@ module _ (order : Order) (rec : Record) (none : refusal_of rec ≡ 0) (fed stray
   abbrev size : ℕ
   size = length body
 
-  ends : Gives (line_with (stx ∷ body) (fed + 1 + size) stray order) (etx ∷ []) (Event (answer.Good rec) (fed % 2 ^ 32) (suc (size + 1)) ∷ []) (outside order (fed + 1 + size + 1) stray)
+  ends : Gives (line_with (stx ∷ body) (fed + 1 + size) stray order) (etx ∷ []) (Event (done rec) (fed % 2 ^ 32) (suc (size + 1)) ∷ []) (outside order (fed + 1 + size + 1) stray)
   ends =
-      let judged : answer_for (judgement order (stx ∷ body)) ≡ answer.Good rec = ap answer_for (reads_back_law order true rec none) in
+      let judged : (judgement order (stx ∷ body)) ≡ done rec = (reads_back_law order true rec none) in
       let fits = body_fits order rec in
       let start : (fed + 1 + size + (2 ^ 32 - suc size)) % 2 ^ 32 ≡ fed % 2 ^ 32 = omega (arith, fits) in
       let count : suc size + 1 ≡ suc (size + 1) = omega arith in
       ((λ i. Event (judged i) (start i) (count i) ∷ []), λ i. outside order (fed + 1 + size + 1) (add-zero stray i))
 
-  runs : Gives (line_with (stx ∷ []) (fed + 1) stray order) (body ++ etx ∷ []) (Event (answer.Good rec) (fed % 2 ^ 32) (suc (size + 1)) ∷ []) (outside order (fed + 1 + size + 1) stray)
+  runs : Gives (line_with (stx ∷ []) (fed + 1) stray order) (body ++ etx ∷ []) (Event (done rec) (fed % 2 ^ 32) (suc (size + 1)) ∷ []) (outside order (fed + 1 + size + 1) stray)
   runs =
       gives_join (line_with (stx ∷ []) (fed + 1) stray order) body (etx ∷ []) [] _ _ _
       (plain_gives order stx [] (fed + 1) stray body (plain_body order rec) (omega (arith, body_fits order rec)))
       ends
 
   pub telegram_gives : Gives (outside order fed stray) (telegram_in order true rec)
-      (Event (answer.Good rec) (fed % 2 ^ 32) (length (telegram_in order true rec)) ∷ [])
+      (Event (done rec) (fed % 2 ^ 32) (length (telegram_in order true rec)) ∷ [])
       (outside order (fed + length (telegram_in order true rec)) stray)
   telegram_gives =
       let count : suc (size + 1) ≡ suc (length (body ++ etx ∷ [])) = omega (arith, length-append body (etx ∷ [])) in
       let sum : fed + 1 + size + 1 ≡ fed + suc (length (body ++ etx ∷ [])) = omega (arith, length-append body (etx ∷ [])) in (
         ap (λ s. events_of (line_with (stx ∷ []) (fed + 1) s order) (body ++ etx ∷ [])) (add-zero stray)
             ∙ runs.0
-            ∙ (λ i. Event (answer.Good rec) (fed % 2 ^ 32) (count i) ∷ []),
+            ∙ (λ i. Event (done rec) (fed % 2 ^ 32) (count i) ∷ []),
         ap (λ s. line_after (line_with (stx ∷ []) (fed + 1) s order) (body ++ etx ∷ [])) (add-zero stray)
             ∙ runs.1
             ∙ (λ i. outside order (sum i) stray),
@@ -92,9 +90,9 @@ sent_gives order (sent ∷ others) behind fed stray good =
     (all.0, all.1 ∙ (λ i. outside order (f i) (s i)))
 
 -- two lists that make the same line are the same list
-record_of : RecordAnswer → List Record
-record_of (answer.Good rec) = rec ∷ []
-record_of (answer.Refused number) = []
+record_of : Outcome Record → List Record
+record_of (done rec) = rec ∷ []
+record_of (refused number) = []
 
 records_in : List Heard → List Record
 records_in [] = []

@@ -22,7 +22,7 @@ use Rattle.trailer_rules.specs.Trailer.{exchange_at, in_order}
 use Rattle.trailer_rules.proofs.TrailerLaws.{length_in_order}
 use Rattle.telegram_rules.specs.Writing.{body_bytes}
 use Rattle.ascii.specs.Control.{stx, etx}
-use Rattle.line_rules.specs.declared.Heard.{Heard}
+use Rattle.line_rules.specs.Hearing.{Heard}
 use Rattle.line_rules.specs.Line.{places, line_with, Line, is_plain, all_plain}
 use Rattle.line_rules.specs.Events.{events_of, line_after}
 use Rattle.line_rules.specs.SentLine.{no_stx}

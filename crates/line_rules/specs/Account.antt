@@ -1,7 +1,6 @@
 -- Document 01, "The line, byte by byte": the account of the bytes. "The first two sums are defined from the bytes."
 use Rattle.std.specs.Prelude.{List, [], ◌∷◌, ℕ, ◌+◌}
-use Rattle.line_rules.specs.declared.Heard.{Heard}
-use Rattle.line_rules.specs.declared.Heard.TheVariants.{Nothing, Event, Refused}
+use Rattle.line_rules.specs.Hearing.{Heard, Nothing, Event, Refused}
 use Rattle.line_rules.specs.Line.{Line, Told, nothing, event, told_by, stray_by, step}
 
 -- the bytes of an event

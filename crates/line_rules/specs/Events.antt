@@ -1,13 +1,12 @@
 -- Document 01, "The line, byte by byte": what any bytes tell, one event behind another, and what the line then holds.
 use Rattle.std.specs.Prelude.{List, [], ◌∷◌, ℕ}
-use Rattle.line_rules.specs.declared.Heard.{Heard}
-use Rattle.line_rules.specs.declared.Heard.TheVariants.{Nothing, Event, Refused}
-use Rattle.line_rules.specs.Line.{places, Line, Told, nothing, event, told_by_at, step_at, start_of, answer_for}
+use Rattle.line_rules.specs.Hearing.{Heard, Nothing, Event, Refused}
+use Rattle.line_rules.specs.Line.{places, Line, Told, nothing, event, told_by_at, step_at, start_of}
 
 -- what a line tells byte by byte, and what it then holds
 abbrev pub tells : Told → ℕ → List Heard → List Heard
 tells nothing start later = later
-tells (event outcome size) start later = Event (answer_for outcome) start size ∷ later
+tells (event outcome size) start later = Event outcome start size ∷ later
 
 abbrev pub events_at : ℕ → Line → List ℕ → List Heard
 events_at bound line [] = []

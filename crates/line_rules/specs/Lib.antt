@@ -1,3 +1,4 @@
+pub mod Hearing
 pub mod Line
 pub mod Runs
 pub mod Events

@@ -1,14 +1,11 @@
 -- Document 01, "The line, byte by byte", and document 02, f: "the trailer order .. becomes a setting of the line", and g: the bound.
 use Rattle.std.specs.Prelude.{Bool, true, cond, not, ◌&&◌, List, [], ◌∷◌, ◌++◌, ℕ, ◌+◌, ◌-◌, ◌%◌, ◌^◌, leb, eqb, length}
-use Rattle.refusals.specs.Refusals.{Outcome, done, refused}
+use Rattle.refusals.specs.Refusals.{Outcome, refused}
 use Rattle.record_rules.specs.declared.Record.{Record}
-use Rattle.record_rules.specs.declared.RecordAnswer.{RecordAnswer}
-use Rattle.record_rules.specs.declared.RecordAnswer.TheVariants as answer
 use Rattle.trailer_rules.specs.declared.Order.{Order}
 use Rattle.telegram_rules.specs.Reading.{read_in}
 use Rattle.ascii.specs.Control.{stx, etx}
-use Rattle.line_rules.specs.declared.Heard.{Heard}
-use Rattle.line_rules.specs.declared.Heard.TheVariants.{Nothing, Event}
+use Rattle.line_rules.specs.Hearing.{Heard, Nothing, Event}
 
 -- "the reader then holds 0 to 38 bytes" (document 02, g). What a line does stands below over any bound, and is in use at this one
 abbrev pub places : ℕ
@@ -117,11 +114,7 @@ abbrev pub is_started : List ℕ → Bool
 is_started [] = true
 is_started (first ∷ held) = eqb first stx && all_plain held
 
--- what is handed out: for each case the paper's number and values
-abbrev pub answer_for : Outcome Record → RecordAnswer
-answer_for (done rec) = answer.Good rec
-answer_for (refused number) = answer.Refused number
-
+-- what is handed out
 abbrev pub heard_for : Told → ℕ → Heard
 heard_for nothing start = Nothing
-heard_for (event outcome size) start = Event (answer_for outcome) start size
+heard_for (event outcome size) start = Event outcome start size

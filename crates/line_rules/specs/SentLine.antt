@@ -2,13 +2,12 @@
 -- STX around.
 use Rattle.std.specs.Prelude.{Bool, true, not, ◌&&◌, List, [], ◌∷◌, ◌++◌, ℕ, ◌+◌, ◌%◌, ◌^◌, eqb, length}
 use Rattle.record_rules.specs.declared.Record.{Record}
-use Rattle.record_rules.specs.declared.RecordAnswer.TheVariants as answer
 use Rattle.record_rules.specs.Rule.{refusal_of}
 use Rattle.trailer_rules.specs.declared.Order.{Order}
 use Rattle.telegram_rules.specs.Writing.{telegram_in}
 use Rattle.ascii.specs.Control.{stx}
-use Rattle.line_rules.specs.declared.Heard.{Heard}
-use Rattle.line_rules.specs.declared.Heard.TheVariants.{Event}
+use Rattle.line_rules.specs.Hearing.{Heard, Event}
+use Rattle.refusals.specs.Refusals.{done}
 
 -- a record, and the bytes before its telegram
 pub record Sent : Type 0 where
@@ -33,7 +32,7 @@ all_good (sent ∷ others) behind = (no_stx sent.before && eqb (refusal_of sent.
 abbrev pub events_sent : Order → ℕ → List Sent → List Heard
 events_sent order from [] = []
 events_sent order from (sent ∷ others) =
-    Event (answer.Good sent.rec) ((from + length sent.before) % 2 ^ 32) (length (telegram_in order true sent.rec))
+    Event (done sent.rec) ((from + length sent.before) % 2 ^ 32) (length (telegram_in order true sent.rec))
     ∷ events_sent order (from + length sent.before + length (telegram_in order true sent.rec)) others
 
 -- the true number of stray bytes

@@ -1,11 +1,11 @@
 -- Document 01, "The line, byte by byte": what its sentences say of every line, each as a statement beside its words.
 use Rattle.std.specs.Prelude.{List, [], ◌∷◌, ◌≡◌, ◌⊎◌, ℕ, ◌+◌, ◌-◌, ◌%◌, ◌^◌, ◌≤◌, length, drop}
 use Rattle.trailer_rules.specs.declared.Order.{Order}
-use Rattle.record_rules.specs.declared.RecordAnswer.{RecordAnswer}
-use Rattle.line_rules.specs.declared.Heard.TheVariants.{Event}
-use Rattle.refusals.specs.Refusals.{refused}
+use Rattle.line_rules.specs.Hearing.{Event}
+use Rattle.refusals.specs.Refusals.{refused, Outcome}
 use Rattle.line_rules.specs.Line.{Line, nothing, event, start_of, feed_of, ended, told_by_end, fresh_line}
 use Rattle.line_rules.specs.Events.{events_of, line_after}
+use Rattle.record_rules.specs.declared.Record.{Record}
 
 -- "so one byte gives at most one event"
 abbrev pub OneByteGivesAtMostOneEvent : Type 0
@@ -26,7 +26,7 @@ AnEventCarriesThatPosition =
     (order : Order) (bytes : List ℕ) (byte : ℕ)
     → let line = line_after (fresh_line order) bytes in
     (events_of line (byte ∷ []) ≡ [])
-    ⊎ ((answer : RecordAnswer) × (size : ℕ) × (events_of line (byte ∷ []) ≡ Event answer ((length bytes - length line.held) % 2 ^ 32) size ∷ []))
+    ⊎ ((answer : Outcome Record) × (size : ℕ) × (events_of line (byte ∷ []) ≡ Event answer ((length bytes - length line.held) % 2 ^ 32) size ∷ []))
 
 -- the end of the line gives "11 for the bytes held if any, else nothing"
 abbrev pub TheEndGives11 : Type 0

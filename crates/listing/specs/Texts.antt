@@ -1,31 +1,34 @@
 -- The words of the listing's private functions: a row in the making.
-use Rattle.std.specs.Prelude.{cond, List, [], ◌∷◌, ℕ, ◌+◌, ltb, take, set, replicate}
+use Rattle.std.specs.Prelude.{List, ℕ, ◌+◌, ◌≤◌, length, Result, Ok, Err}
+use Rattle.listing.specs.declared.text.TheConstants.{TEXT_ROOM}
+use Rattle.refusals.specs.Refusals.{Outcome, done, refused}
+use Rattle.record_rules.specs.declared.Record.{Record}
 
--- a row in the making: bytes, and how many of them stand so far
-pub record Text : Type 0 where
-  pub bytes : List ℕ
-  pub len : ℕ
+-- behind a text there is room for so many bytes more
+abbrev pub Room : List ℕ → ℕ → Type 0
+Room text more = length text + more ≤ TEXT_ROOM
 
-abbrev pub text_of : List ℕ → ℕ → Text
-text_of bytes len = record { bytes = bytes; len = len }
+-- no number of 64 bits has more digits
+abbrev pub most_digits : ℕ
+most_digits = 20
 
--- how many bytes a text has room for
-abbrev pub text_room : ℕ
-text_room = 88
+-- nor a column of such a number and its semicolon
+abbrev pub most_column : ℕ
+most_column = 21
 
--- nothing yet
-abbrev pub empty_text : Text
-empty_text = text_of (replicate text_room 0) 0
+-- no status takes more bytes
+abbrev pub most_status : ℕ
+most_status = 30
 
--- one byte more, where there is room for it
-unfoldable pub pushed : Text → ℕ → Text
-pushed text byte = cond (ltb text.len text_room) (text_of (set text.bytes text.len byte) (text.len + 1)) text
+-- nor does all that a record says
+abbrev pub most_columns : ℕ
+most_columns = 58
 
--- several, one behind another
-unfoldable pub appended : Text → List ℕ → Text
-appended text [] = text
-appended text (byte ∷ bytes) = appended (pushed text byte) bytes
+-- nor do a block's number and an offset, each with its semicolon
+abbrev pub most_place : ℕ
+most_place = 42
 
--- the bytes that stand so far
-abbrev pub content_of : Text → List ℕ
-content_of text = take text.len text.bytes
+-- what is told of a telegram: its record, or a number that refuses it
+abbrev pub told_as : Result Record ℕ → Outcome Record
+told_as (Ok rec) = done rec
+told_as (Err number) = refused number

@@ -3,3 +3,4 @@ pub mod NumberLaws
 pub mod WholeLaws
 pub mod RoomLaws
 pub mod AsPrintedHolds
+pub mod ToldApart

@@ -8,18 +8,16 @@ use lib.ListN.{length, take, drop, length-drop, drop_of_length-le}
 use lib.Seq.{drop-drop}
 use borrow.Rule.Slice.PartMut.{put_mid}
 use Rattle.refusals.specs.Refusals.{Outcome, done, refused}
-use Rattle.lent_buffer.specs.declared.Ending.{Ending}
-use Rattle.lent_buffer.specs.declared.Ending.TheVariants as ending
+use Rattle.lent_buffer.specs.Endings.{Ending}
+use Rattle.lent_buffer.specs.Endings as ending
 use Rattle.lent_buffer.specs.Laying.{laid}
 use Rattle.lent_buffer.specs.OneBehindAnother.{nothing, part, Standing, joined, one_behind_another}
 use Rattle.lent_buffer.proofs.LayingLaws.{within_done, laid_fits, laid_refused, stands}
 use Rattle.lent_buffer.proofs.TailLaws.{tail_lent, tail_back}
 use Rattle.lent_buffer.proofs.OneBehindAnotherLaws.{stands_by, Laying, Ended, none_yet_law, no_more_law, part_stops, part_stands}
 use Rattle.line.specs.declared.Reader.{Reader}
-use Rattle.line.specs.declared.Fed.{Fed}
-use Rattle.line_rules.specs.declared.Heard.{Heard}
-use Rattle.line_rules.specs.declared.Heard.TheVariants.{Nothing, Refused}
-use Rattle.line.specs.Readers.{well_formed, feed_reader, feed_reader_at, line_of, fed_for}
+use Rattle.line_rules.specs.Hearing.{Heard, Nothing, Refused}
+use Rattle.line.specs.Readers.{well_formed, feed_reader, feed_reader_at, line_of, fed_for, Fed}
 use Rattle.line_rules.specs.Line.{feed_of, told_by, start_of, step}
 use Rattle.line.proofs.PieceLaws.{feed_fits}
 use Rattle.line_rules.proofs.EventLaws.{some_by}

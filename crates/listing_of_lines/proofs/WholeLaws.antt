@@ -18,8 +18,7 @@ use Rattle.telegram_rules.specs.Reading.{read_in}
 use Rattle.telegram_rules.proofs.InOrder.{accepted}
 use Rattle.trailer_rules.specs.declared.Order.{Order}
 use Rattle.line.specs.declared.Reader.{Reader}
-use Rattle.line_rules.specs.declared.Heard.{Heard}
-use Rattle.line_rules.specs.declared.Heard.TheVariants.{Nothing, Event, Refused}
+use Rattle.line_rules.specs.Hearing.{Heard, Nothing, Event, Refused}
 use Rattle.line.specs.Readers.{reader_of, fresh_in, feed_reader, end_reader}
 use Rattle.line_rules.specs.Line.{places, Line, Told, nothing, event, Feeding, stop_or, feed_of, told_by, step, start_of, heard_for, fresh_line}
 use Rattle.line_rules.specs.Events.{events_of, line_after, heard_then}

@@ -1,16 +1,14 @@
 -- The rows of a line's events, one behind another in a lent buffer.
 use Rattle.std.specs.Prelude.{cond, List, [], ◌∷◌, ℕ, ◌-◌, length, drop}
 use Rattle.refusals.specs.Refusals.{Outcome, done, refused}
-use Rattle.lent_buffer.specs.declared.Ending.{Ending}
-use Rattle.lent_buffer.specs.declared.Ending.TheVariants as ending
+use Rattle.lent_buffer.specs.Endings.{Ending}
+use Rattle.lent_buffer.specs.Endings as ending
 use Rattle.lent_buffer.specs.OneBehindAnother.{Next, nothing, part, Standing, joined, one_behind_another}
 use Rattle.line.specs.declared.Reader.{Reader}
-use Rattle.line.specs.declared.Fed.{Fed}
-use Rattle.line_rules.specs.declared.Heard.{Heard}
-use Rattle.line_rules.specs.declared.Heard.TheVariants.{Nothing, Event, Refused}
-use Rattle.line.specs.Readers.{well_formed, feed_reader}
+use Rattle.line_rules.specs.Hearing.{Heard, Nothing, Event, Refused}
+use Rattle.line.specs.Readers.{well_formed, feed_reader, Fed}
 use Rattle.listing_rules.specs.Listing.{event_row}
-use Rattle.listing_of_lines.specs.declared.Listed.{Listed}
+use Rattle.listing_of_lines.specs.declared.Listed as code
 
 -- the row of what was heard: an event has one, nothing has none, and a refused state has its number
 abbrev pub row_for : Heard → Outcome (List ℕ)
@@ -66,5 +64,16 @@ stopped reader end = record { bytes = []; taken = 0; reader = reader; ending = e
 unfoldable pub page_of : ℕ → Reader → List ℕ → Page
 page_of room reader piece = cond (well_formed reader) (page_for piece (rows_in room reader piece)) (stopped reader (ending.Refused 15))
 
+-- a call's answer
+pub record Listed : Type 0 where
+  pub reader : Reader
+  pub taken : ℕ
+  pub used : ℕ
+  pub ending : Ending
+
 abbrev pub listed_for : Page → Listed
 listed_for page = record { reader = page.reader; taken = page.taken; used = length page.bytes; ending = page.ending }
+
+-- what the code hands out
+abbrev pub listed_as : code.Listed → Listed
+listed_as listed = record { reader = listed.reader; taken = listed.taken; used = listed.used; ending = ending.ending_as listed.ending }

@@ -2,23 +2,22 @@
 use Rattle.std.specs.Prelude.{List, [], ◌∷◌, ◌++◌, map, ◌≡◌, ℕ, ◌%◌, ◌^◌, ◌≤◌, length, drop, replicate}
 use Prim.{Unit}
 use Rattle.lent_buffer.specs.OneBehindAnother.{joined}
-use Rattle.record_rules.specs.declared.RecordAnswer.TheVariants as answer
 use Rattle.trailer_rules.specs.declared.Order.{Order}
 use Rattle.trailer_rules.specs.declared.Order.TheVariants.{AsPrinted}
 use Rattle.line.specs.declared.Reader.{Reader}
-use Rattle.line_rules.specs.declared.Heard.{Heard}
-use Rattle.line_rules.specs.declared.Heard.TheVariants.{Nothing, Event, Refused}
+use Rattle.line_rules.specs.Hearing.{Heard, Nothing, Event, Refused}
 use Rattle.line.specs.Readers.{fresh_in, end_reader}
 use Rattle.line_rules.specs.Line.{Line, fresh_line, told_by_end, start_of, heard_for}
 use Rattle.line_rules.specs.Events.{events_of, line_after}
 use Rattle.listing_rules.specs.Listing.{longest_row, header_row, record_row, refused_row, stray_row}
 use Rattle.listing_of_lines.specs.Pages.{page_of}
+use Rattle.refusals.specs.Refusals.{done, refused}
 
 -- a row for each event: the record that was read, or the number that it was refused with
 abbrev pub row_of_event : Heard → List ℕ
 row_of_event Nothing = []
-row_of_event (Event (answer.Good rec) start size) = record_row start rec
-row_of_event (Event (answer.Refused number) start size) = refused_row start number
+row_of_event (Event (done rec) start size) = record_row start rec
+row_of_event (Event (refused number) start size) = refused_row start number
 row_of_event (Refused number) = []
 
 abbrev pub rows_of : List Heard → List ℕ

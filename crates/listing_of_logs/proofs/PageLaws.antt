@@ -2,19 +2,19 @@
 use mathlib.Core.Path.{◌≡◌, ap, ap₂, sym, ◌∙◌}
 use mathlib.Core.Bool.{true}
 use mathlib.Core.List.{List, ◌∷◌, ◌++◌, append_assoc, append-nil}
-use Prim.Native.Nat.{ℕ, suc, ◌+◌, ◌*◌, ◌-◌, ◌^◌, ◌≤◌, ◌<◌}
+use Prim.Native.Nat.{ℕ, zero, suc, ◌+◌, ◌*◌, ◌-◌, ◌^◌, ◌≤◌, ◌<◌}
 use native.Mathlib.Numerals.{add-one}
 use native.Mathlib.Omega.{arith}
 use lib.Dec.{leb}
 use lib.ListN.{length, take, drop, length-append, length-drop}
-use lib.Seq.{drop-drop, length-take-le, take_at}
+use lib.Seq.{drop-drop, length-take-le, take_at, drop_at}
 use borrow.Rule.Slice.PartMut.{put_mid}
 use Rattle.refusals.specs.Refusals.{Outcome, done, refused}
 use Rattle.refusals.proofs.Laws.{both}
 use Rattle.lent_buffer.specs.Laying.{laid}
 use Rattle.lent_buffer.proofs.LayingLaws.{laid_fits}
 use Rattle.lent_buffer.proofs.TailLaws.{tail_lent, tail_back}
-use Rattle.log_rules.specs.Block.{slots, slot_size}
+use Rattle.log_rules.specs.Block.{slots, slot_size, block_size}
 use Rattle.log_rules.specs.Good.{count_in, telegram_in, telegrams_from, telegrams_of, reads_well, all_read_well, is_kept, is_good}
 use Rattle.log_rules.proofs.BlockLaws.{count_telegrams, good_kept, kept_count}
 use Rattle.listing_rules.specs.LogRows.{longest_log_row}
@@ -54,11 +54,12 @@ none_yet number block page good room =
       so_far = ap (rows_from number 0) (all_left block);
     }
 
--- a slot, cut out of its block
-pub slot_at : (block : List ℕ) (at : ℕ)
-    → take (slot_size * at + slot_size - slot_size * at) (drop (slot_size * at) block) ≡ take slot_size (drop (slot_size * at) block)
-slot_at block at =
-    let size : slot_size * at + slot_size - slot_size * at ≡ slot_size = omega arith in ap (λ n. take n (drop (slot_size * at) block)) size
+-- where no slot comes, all are taken
+pub all_taken : (block left : List ℕ) (count at : ℕ) → length block ≡ block_size → count ≤ slots → left ≡ drop (slot_size * at) block
+    → (n : ℕ) → n + at ≡ count → (0 < n → length left < slot_size) → count ≤ at
+all_taken block left count at long few behind zero sum none = omega arith
+all_taken block left count at long few behind (suc n) sum none =
+    absurd (omega (arith, none (omega arith), ap length behind, length-drop (slot_size * at) block))
 
 module _ (number : ℕ) (block page : List ℕ) (count at used : ℕ) (filling : Filling number block page count at used) where
   pub inside_page : used ≤ length page
@@ -73,8 +74,23 @@ module _ (number : ℕ) (block page : List ℕ) (count at used : ℕ) (filling :
       ∙ filling.so_far
 
   -- one more
-  module _ (wide : number < 2 ^ 64) (more : at < count) (slot : List ℕ) (slot_is : slot ≡ take slot_size (drop (slot_size * at) block))
-      (answer : Outcome ℕ) (last : List ℕ) (told : laid (row_of number at (telegram_in slot)) (take (length page - used) (drop used page)) ≡ (answer, last)) where
+  module _ (wide : number < 2 ^ 64) (more : at < count) (left_slots slot rest : List ℕ) (behind : left_slots ≡ drop (slot_size * at) block)
+      (parted : left_slots ≡ slot ++ rest) (size : length slot ≡ slot_size) (now : ℕ) (is_now : now ≡ at) (answer : Outcome ℕ) (last : List ℕ)
+      (told : laid (row_of number now (telegram_in slot)) (take (length page - used) (drop used page)) ≡ (answer, last)) where
+    cut : drop (slot_size * at) block ≡ slot ++ rest
+    cut = sym behind ∙ parted
+
+    slot_is : slot ≡ take slot_size (drop (slot_size * at) block)
+    slot_is = sym (ap (take slot_size) cut ∙ take_at slot rest slot_size size)
+
+    pub left_behind : rest ≡ drop (slot_size * (at + 1)) block
+    left_behind =
+        let on : slot_size * at + slot_size ≡ slot_size * (at + 1) = omega arith in
+        sym (drop_at slot rest slot_size size)
+        ∙ ap (drop slot_size) (sym cut)
+        ∙ drop-drop slot_size (slot_size * at) block
+        ∙ ap (λ n. drop n block) on
+
     abbrev others : List (List ℕ)
     others = left count (at + 1) block
 
@@ -100,11 +116,14 @@ module _ (number : ℕ) (block page : List ℕ) (count at used : ℕ) (filling :
         ap₂ laid here.is (tail_lent used page used (omega (arith, inside_page)))
         ∙ laid_fits row (drop used page) (omega (arith, here.short, length-drop used page, filling.few, filling.room, filling.fits))
 
+    told_here : laid (row_of number at (telegram_in slot)) (take (length page - used) (drop used page)) ≡ (answer, last)
+    told_here = ap (λ n. laid (row_of number n (telegram_in slot)) (take (length page - used) (drop used page))) (sym is_now) ∙ told
+
     answer_is : answer ≡ done (length row)
-    answer_is = ap (λ p. p.0) (sym told ∙ laid_so)
+    answer_is = ap (λ p. p.0) (sym told_here ∙ laid_so)
 
     last_is : last ≡ row ++ drop (length row) (drop used page)
-    last_is = ap (λ p. p.1) (sym told ∙ laid_so)
+    last_is = ap (λ p. p.1) (sym told_here ∙ laid_so)
 
     pub not_refused : (n : ℕ) → answer ≡ refused n → ⊥
     not_refused n e = let z : ◌≡◌ {A = ℕ} 0 1 = cc (answer_is) in omega arith

@@ -1,17 +1,15 @@
 -- Laws of the rows of a telegram and of a block, and of the first bytes of a page. Assumes nothing.
-use mathlib.Core.Path.{◌≡◌, refl, ap, ap₂, sym, ◌∙◌}
+use mathlib.Core.Path.{◌≡◌, refl, ap, sym, ◌∙◌}
 use mathlib.Core.Bool.{Bool, true, false}
-use mathlib.Core.List.{List, ◌++◌}
+use mathlib.Core.List.{List}
 use Prim.Native.Nat.{ℕ, ◌+◌, ◌-◌, ◌^◌, ◌≤◌, ◌<◌, min}
 use native.Mathlib.Omega.{arith}
 use lib.Dec.{leb}
 use lib.ListN.{length, take, drop, get_or, length-drop}
-use lib.Seq.{take_all, length-take-le}
+use lib.Seq.{take_all}
 use borrow.Author.Tests.{leb-true, leb-false}
 use Rattle.refusals.specs.Refusals.{Outcome, done, refused, after}
 use Rattle.refusals.proofs.Laws.{does}
-use Rattle.lent_buffer.specs.Laying.{laid}
-use Rattle.lent_buffer.proofs.LayingLaws.{laid_short, laid_fits}
 use Rattle.record_rules.specs.declared.Record.{Record}
 use Rattle.telegram_rules.specs.Reading.{read_of}
 use Rattle.telegram_rules.proofs.BackAndForth.{accepted_is_written}
@@ -59,20 +57,6 @@ has_row number slot telegram wide small reads = go (read_of true telegram) refl 
           short = slot_short number slot wide small rec;
         }
     go (refused n) e done_is = let z : ◌≡◌ {A = ℕ} 0 1 = cc in absurd (omega arith)
-
--- The ways in which the first bytes of a page are laid.
-module _ (page out : List ℕ) (used : ℕ) (inside : used ≤ length page) where
-  size : length (take used page) ≡ used
-  size = length-take-le used page inside
-
-  pub first_short : length out < used → laid (done (take used page)) out ≡ (refused 13, out)
-  first_short short = laid_short (take used page) out (omega (arith, size))
-
-  pub first_laid : (last : List ℕ) (at : ℕ) → used ≤ length out → at ≡ used → last ≡ take at page ++ drop at out
-      → laid (done (take used page)) out ≡ (done used, last)
-  first_laid last at fits end e =
-      laid_fits (take used page) out (omega (arith, size))
-      ∙ ap₂ (λ n l. (done n, l)) size (ap (λ n. take used page ++ drop n out) size ∙ sym (e ∙ ap (λ n. take n page ++ drop n out) end))
 
 -- the rows of a block, good or bad
 module _ (number : ℕ) (block : List ℕ) where

@@ -1,36 +1,54 @@
 // The listing, handed to a writer: each row goes out when its event has come.
 #![tactic(auto)]
 
-ghost use Rattle.std.specs.Prelude.{◌≡◌, ◌++◌, min, take, OnOk};
+ghost use Rattle.std.specs.Prelude.{◌≡◌, ◌++◌, take, Ok, OnOk};
 ghost use Rattle.std.specs.Io.KnownBytes.{Appends};
 ghost use Rattle.line.specs.Readers.{fresh_in, fresh_reader, end_reader};
 ghost use Rattle.listing_rules.specs.Listing.{header_row, stray_row};
 ghost use Rattle.listing_of_lines.specs.Pages.{page_of, row_for};
-ghost use Rattle.listing_output.specs.declared.Output.TheVariants.{Whole};
-ghost use Rattle.listing_output.specs.Printing.{page_room, after_piece, printed, printed_row, bytes_of, piece_rows, end_rows, IsSent, IsRowSent, IsSilentUnlessWhole};
+ghost use Rattle.refusals.specs.Numbers.{number};
+ghost use Rattle.line_rules.specs.Hearing.{heard_as};
+ghost use Rattle.listing_output.specs.declared.Unwritten.TheVariants.{Failed, Refused};
+ghost use Rattle.listing_output.specs.Printing.{page_room, after_piece, printed, numbered, printed_row, bytes_of, piece_rows, end_rows, IsSent, IsRowSent, IsSilentUnlessWhole};
 
 use line::{Heard, Reader};
-use listing::{LONGEST_ROW, RowAnswer};
-use refusals::STATE_ILL_FORMED;
+use listing::LONGEST_ROW;
+use listing_of_lines::row_for;
+use refusals::Refusal;
 use std::io;
 use std::io::Write;
 use trailer::Order;
 
-// How the output stands. Once it is not whole, nothing more is written.
+// Why the output is not whole. Nothing more is written then.
 #[derive(Clone, Copy)]
-pub enum Output {
-    Whole,
+pub enum Unwritten {
     // A write did not go through, for this reason.
     Failed(io::Error),
     // Something was refused with this number.
     Refused(u8),
 }
 
+impl From<io::Error> for Unwritten {
+    ghost from_gives = { λ why unwritten. unwritten ≡ Failed why };
+
+    fn from(why: io::Error) -> Unwritten {
+        Unwritten::Failed(why)
+    }
+}
+
+impl From<Refusal> for Unwritten {
+    ghost from_gives = { λ refusal unwritten. unwritten ≡ Refused (number refusal) };
+
+    fn from(refusal: Refusal) -> Unwritten {
+        Unwritten::Refused(refusal.number())
+    }
+}
+
 // The reader of the line so far, and how the output stands.
 #[derive(Clone, Copy)]
 pub struct Printer {
     pub reader: Reader,
-    pub output: Output,
+    pub output: Result<(), Unwritten>,
 }
 
 // Room for the rows that are written at once.
@@ -44,64 +62,60 @@ struct Sheet {
     written: io::Result<()>,
 }
 
-fn smaller(a: usize, b: usize) -> usize
-    ensures { result ≡ min a b }
-{
-    if a < b {
-        return a;
-    }
-    b
-}
-
 // Writes the first bytes of a buffer.
 fn print<W: Write>(to: &mut W, out: &[u8], count: usize) -> io::Result<()>
     ensures { OnOk result (Appends (W.contents to.old) (W.contents to.new) (take count out.now)) }
 {
-    let end = smaller(count, out.len());
-    to.write_all(&out[0..end])
+    to.write_all(&out[..count.min(out.len())])
 }
 
-// Writes a row that was made at the front of a buffer.
-pub fn print_row<W: Write>(to: &mut W, made: RowAnswer, out: &[u8]) -> Output
+// Writes a row that was made at the front of a buffer, or tells the number that it was refused with.
+pub fn print_row<W: Write>(to: &mut W, made: Result<usize, u8>, out: &[u8]) -> Result<(), Unwritten>
     ensures told { result ≡ printed_row made result }
     ensures sent { IsRowSent made result (W.contents to.old) (W.contents to.new) out.now }
 {
     match made {
-        RowAnswer::Written(count) => match print(to, out, count) {
-            Ok(()) => Output::Whole,
-            Err(why) => Output::Failed(why),
-        },
-        RowAnswer::Refused(number) => Output::Refused(number),
+        Ok(count) => Ok(print(to, out, count)?),
+        Err(number) => Err(Unwritten::Refused(number)),
     }
 }
 
-fn print_header<W: Write>(to: &mut W) -> Output
+// The same of what `listing` hands out.
+fn print_made<W: Write>(
+    to: &mut W,
+    made: Result<usize, Refusal>,
+    out: &[u8],
+) -> Result<(), Unwritten>
+    ensures told { result ≡ printed_row (numbered made) result }
+    ensures sent { IsRowSent (numbered made) result (W.contents to.old) (W.contents to.new) out.now }
+{
+    print_row(to, made.map_err(Refusal::number), out)
+}
+
+fn print_header<W: Write>(to: &mut W) -> Result<(), Unwritten>
     ensures { IsSent result (W.contents to.old) (W.contents to.new) header_row }
 {
     let mut out = [0u8; LONGEST_ROW];
     let made = listing::rows::header(&mut out);
-    print_row(to, made, &out)
+    print_made(to, made, &out)
 }
 
-fn print_stray<W: Write>(to: &mut W, stray: u32) -> Output
+fn print_stray<W: Write>(to: &mut W, stray: u32) -> Result<(), Unwritten>
     ensures { IsSent result (W.contents to.old) (W.contents to.new) (stray_row stray) }
 {
     let mut out = [0u8; LONGEST_ROW];
     let made = listing::rows::stray_line(stray, &mut out);
-    print_row(to, made, &out)
+    print_made(to, made, &out)
 }
 
 // The last event's row, if there is one, and the line with the count of stray bytes.
-fn print_last<W: Write>(to: &mut W, heard: Heard, stray: u32) -> Output
-    ensures { IsSent result (W.contents to.old) (W.contents to.new) (bytes_of (row_for heard) ++ stray_row stray) }
+fn print_last<W: Write>(to: &mut W, heard: Heard, stray: u32) -> Result<(), Unwritten>
+    ensures { IsSent result (W.contents to.old) (W.contents to.new) (bytes_of (row_for (heard_as heard)) ++ stray_row stray) }
 {
     let mut out = [0u8; LONGEST_ROW];
-    let made = listing_of_lines::row_for(heard, &mut out);
-    match print_row(to, made, &out) {
-        Output::Whole => print_stray(to, stray),
-        Output::Failed(why) => Output::Failed(why),
-        Output::Refused(number) => Output::Refused(number),
-    }
+    let made = row_for(heard, &mut out);
+    print_made(to, made, &out)?;
+    print_stray(to, stray)
 }
 
 // The rows of as much of a piece as one buffer takes.
@@ -121,58 +135,53 @@ fn print_page<W: Write>(to: &mut W, reader: Reader, piece: &[u8]) -> Sheet
 
 // Uses a piece up, page by page. Where a write fails the reader comes back as it was.
 fn print_piece<W: Write>(to: &mut W, reader: Reader, piece: &[u8]) -> Printer
-    ensures left { result ≡ printed Whole reader (after_piece reader piece.now) result.output }
+    ensures left { result ≡ printed (Ok tt) reader (after_piece reader piece.now) result.output }
     ensures sent { IsSent result.output (W.contents to.old) (W.contents to.new) (piece_rows reader piece.now) }
 {
     if !reader.is_well_formed() {
         return Printer {
             reader,
-            output: Output::Refused(STATE_ILL_FORMED),
+            output: Err(Unwritten::from(Refusal::StateIllFormed)),
         };
     }
-    let length = piece.len();
     let mut next = reader;
-    let mut at: usize = 0;
-    while at < length {
-        let sheet = print_page(to, next, &piece[at..length]);
+    let mut at = 0;
+    while at < piece.len() {
+        let sheet = print_page(to, next, &piece[at..]);
         next = sheet.reader;
         at += sheet.taken;
         if let Err(why) = sheet.written {
             return Printer {
                 reader,
-                output: Output::Failed(why),
+                output: Err(Unwritten::Failed(why)),
             };
         }
     }
     Printer {
         reader: next,
-        output: Output::Whole,
+        output: Ok(()),
     }
 }
 
 fn print_end<W: Write>(to: &mut W, reader: Reader) -> Printer
-    ensures left { result ≡ printed Whole reader (end_reader reader).reader result.output }
+    ensures left { result ≡ printed (Ok tt) reader (end_reader reader).reader result.output }
     ensures sent { IsSent result.output (W.contents to.old) (W.contents to.new) (end_rows reader) }
 {
     if !reader.is_well_formed() {
         return Printer {
             reader,
-            output: Output::Refused(STATE_ILL_FORMED),
+            output: Err(Unwritten::from(Refusal::StateIllFormed)),
         };
     }
     let ended = reader.end();
     match print_last(to, ended.heard, reader.stray) {
-        Output::Whole => Printer {
+        Ok(()) => Printer {
             reader: ended.reader,
-            output: Output::Whole,
+            output: Ok(()),
         },
-        Output::Failed(why) => Printer {
+        Err(why) => Printer {
             reader,
-            output: Output::Failed(why),
-        },
-        Output::Refused(number) => Printer {
-            reader,
-            output: Output::Refused(number),
+            output: Err(why),
         },
     }
 }
@@ -204,9 +213,8 @@ impl Printer {
         ensures silent { IsSilentUnlessWhole self.output (W.contents to.old) (W.contents to.new) }
     {
         match self.output {
-            Output::Whole => print_piece(to, self.reader, piece),
-            Output::Failed(_) => self,
-            Output::Refused(_) => self,
+            Ok(()) => print_piece(to, self.reader, piece),
+            Err(_) => self,
         }
     }
 
@@ -217,9 +225,8 @@ impl Printer {
         ensures silent { IsSilentUnlessWhole self.output (W.contents to.old) (W.contents to.new) }
     {
         match self.output {
-            Output::Whole => print_end(to, self.reader),
-            Output::Failed(_) => self,
-            Output::Refused(_) => self,
+            Ok(()) => print_end(to, self.reader),
+            Err(_) => self,
         }
     }
 }

@@ -2,4 +2,3 @@ pub mod DecimalLaws
 pub mod RowLaws
 pub mod LogRowLaws
 pub mod AsPrintedHolds
-pub mod Whole

@@ -10,17 +10,16 @@ use Rattle.record_rules.specs.declared.TimeLayout.TheVariants.{T6021, T5500, T50
 use Rattle.record_rules.specs.declared.Reception.TheVariants.{Invalid, Crystal, Radio, High}
 use Rattle.record_rules.specs.declared.Status.{Status}
 use Rattle.record_rules.specs.declared.Record.TheVariants.{Dated, TimeOnly}
-use Rattle.record_rules.specs.declared.RecordAnswer.{RecordAnswer}
-use Rattle.record_rules.specs.declared.RecordAnswer.TheVariants.{Good, Refused}
 use Rattle.record_rules.specs.Literals.{status_of}
 use Rattle.ascii.specs.Ascii.{ascii}
 use Rattle.ascii.specs.Control.{lf}
 use Rattle.listing_rules.specs.Listing.{header_row, event_row, stray_row, longest_row}
+use Rattle.record_rules.specs.declared.Record.{Record}
 
 -- a line of the listing: the header, an event by its start and answer, the count of stray bytes
 pub data ListingLine : Type 0 where
   header : ListingLine
-  event : ℕ → RecordAnswer → ListingLine
+  event : ℕ → Outcome Record → ListingLine
   stray : ℕ → ListingLine
 
 -- what stands in that line
@@ -34,17 +33,17 @@ abbrev pub line : String → List ℕ
 line text = ascii text ++ lf ∷ []
 
 -- 17 April 1996, 12:34:56: a Wednesday, 3
-abbrev pub april : DatedLayout → Status → ℕ → RecordAnswer
+abbrev pub april : DatedLayout → Status → ℕ → Outcome Record
 april layout status weekday =
-    Good (Dated layout status weekday (date 1996 4 17) (time 12 34 56))
+    done (Dated layout status weekday (date 1996 4 17) (time 12 34 56))
 
 -- 1 January 2000, 00:00:05: a Saturday, 6
-abbrev pub new_year : DatedLayout → Status → ℕ → RecordAnswer
+abbrev pub new_year : DatedLayout → Status → ℕ → Outcome Record
 new_year layout status weekday =
-    Good (Dated layout status weekday (date 2000 1 1) (time 0 0 5))
+    done (Dated layout status weekday (date 2000 1 1) (time 0 0 5))
 
-abbrev pub time_only : TimeLayout → RecordAnswer
-time_only layout = Good (TimeOnly layout (time 12 34 56))
+abbrev pub time_only : TimeLayout → Outcome Record
+time_only layout = done (TimeOnly layout (time 12 34 56))
 
 abbrev pub longest_line : String
 longest_line = "4294967295;6021;1996-04-17;12:34:56;3;crystal,daylight,utc,announced"
@@ -55,7 +54,7 @@ lines =
     -- the listing that document 01 prints
     (header, "start;kind;date;time;weekday;status")
     ∷ (event 1 (april L6021 (status_of High true false false) 3), "1;6021;1996-04-17;12:34:56;3;high,daylight")
-    ∷ (event 19 (Refused 11), "19;refused 11")
+    ∷ (event 19 (refused 11), "19;refused 11")
     ∷ (stray 1, "stray 1")
     -- "empty input gives the header and `stray 0`"
     ∷ (stray 0, "stray 0")

@@ -1,6 +1,5 @@
 pub mod Decimals
 pub mod Listing
 pub mod LogRows
-pub mod Answers
 pub mod AsPrinted
 pub mod LogAsPrinted

@@ -1,6 +1,6 @@
 -- Document 01, "Listing, whole": the rows of the listing, as bytes.
 use Rattle.std.specs.Prelude.{Bool, cond, List, [], ◌∷◌, ◌++◌, ℕ}
-use Rattle.refusals.specs.Refusals.{Outcome, done, unless}
+use Rattle.refusals.specs.Refusals.{Outcome, done, unless, refused}
 use Rattle.calendar_rules.specs.declared.date.Date.{Date}
 use Rattle.calendar_rules.specs.declared.time.Time.{Time}
 use Rattle.record_rules.specs.declared.DatedLayout.{DatedLayout}
@@ -12,8 +12,6 @@ use Rattle.record_rules.specs.declared.Reception.TheVariants.{Invalid, Crystal, 
 use Rattle.record_rules.specs.declared.Status.{Status}
 use Rattle.record_rules.specs.declared.Record.{Record}
 use Rattle.record_rules.specs.declared.Record.TheVariants.{Dated, TimeOnly}
-use Rattle.record_rules.specs.declared.RecordAnswer.{RecordAnswer}
-use Rattle.record_rules.specs.declared.RecordAnswer.TheVariants as answer
 use Rattle.record_rules.specs.Rule.{refusal_of}
 use Rattle.ascii.specs.Ascii.{ascii}
 use Rattle.listing_rules.specs.Decimals.{digit, two, four, decimal}
@@ -88,9 +86,9 @@ unfoldable pub refused_row : ℕ → ℕ → List ℕ
 refused_row start number = decimal start ++ ascii ";refused " ++ decimal number ++ ascii "\n"
 
 -- the row of an event. What no telegram could say has no row: 5 to 8
-abbrev pub event_row : ℕ → RecordAnswer → Outcome (List ℕ)
-event_row start (answer.Good rec) = unless (refusal_of rec) (record_row start rec)
-event_row start (answer.Refused number) = done (refused_row start number)
+abbrev pub event_row : ℕ → Outcome Record → Outcome (List ℕ)
+event_row start (done rec) = unless (refusal_of rec) (record_row start rec)
+event_row start (refused number) = done (refused_row start number)
 
 -- as in "stray 1", the last line of the listing
 unfoldable pub stray_row : ℕ → List ℕ

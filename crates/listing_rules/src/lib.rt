@@ -1,9 +1,2 @@
-// The rows of the listings, as bytes. No code.
+// The rows of the listings, as bytes. There is no code here: specs/ has the words.
 #![tactic(auto)]
-
-// How many bytes of the buffer the row takes, or the number that refuses it.
-#[derive(Clone, Copy)]
-pub enum RowAnswer {
-    Written(usize),
-    Refused(u8),
-}

@@ -1,12 +1,10 @@
 -- A telegram laid into the slot that is lent, and the block come back with it. Assumes nothing.
-use mathlib.Core.Path.{◌≡◌, ap, ap₂, sym, ◌∙◌}
+use mathlib.Core.Path.{◌≡◌, ap, ap₂, ◌∙◌}
 use mathlib.Core.Bool.{true}
-use mathlib.Core.List.{List, [], ◌∷◌, ◌++◌}
-use Prim.Native.Nat.{ℕ, suc, ◌+◌, ◌*◌, ◌-◌, ◌<◌, min}
-use native.Mathlib.Numerals.{add-one}
+use mathlib.Core.List.{List, ◌++◌}
+use Prim.Native.Nat.{ℕ, ◌+◌, ◌*◌, ◌-◌, ◌<◌, min}
 use native.Mathlib.Omega.{arith}
-use lib.ListN.{length, take, drop, get_or, set}
-use lib.Seq.{paste, paste-suc, take-length}
+use lib.ListN.{length, take, drop, set}
 use borrow.Rule.Slice.PartMut.{put_mid}
 use Rattle.lent_buffer.proofs.TailLaws.{tail_lent, tail_back}
 use Rattle.log_rules.specs.Block.{slots, slot_size, count_place, check_place, block_size, sealed}
@@ -14,22 +12,6 @@ use Rattle.log_rules.specs.Good.{count_in, reads_well, is_good}
 use Rattle.log_rules.specs.Add.{entered}
 use Rattle.log_rules.proofs.BlockLaws.{good_length}
 use Rattle.log_rules.proofs.EnterLaws.{laid_into, laid, laid_length, laid_body}
-
--- one byte more of a telegram that is laid behind a first byte
-pub paste_next : (slot telegram : List ℕ) (at : ℕ) → at + 1 < length slot → at < length telegram
-    → set (paste slot 1 telegram at) (at + 1) (get_or telegram at 0) ≡ paste slot 1 telegram (at + 1)
-paste_next slot telegram at room more =
-    let turned : at + 1 ≡ 1 + at = omega arith in
-    ap (λ n. set (paste slot 1 telegram at) n (get_or telegram at 0)) turned
-    ∙ paste-suc slot 1 telegram at 0 (omega arith) more
-    ∙ ap (paste slot 1 telegram) (sym (add-one at))
-
-pub slot_laid : (slot telegram : List ℕ) → 0 < length slot
-    → paste (set slot 0 (length telegram)) 1 telegram (length telegram) ≡ laid_into telegram slot
-slot_laid [] telegram some = absurd (omega arith)
-slot_laid (first ∷ rest) telegram some =
-    let next : 1 + length telegram ≡ suc (length telegram) = omega arith in
-    ap₂ (λ t d. (length telegram ∷ t) ++ d) (take-length telegram) (ap (λ n. drop n (length telegram ∷ rest)) next)
 
 -- The part behind the used slots is lent, and comes back with the telegram laid into it.
 module _ (block telegram : List ℕ) (good : is_good block ≡ true) (free : count_in block < slots) (reads : reads_well telegram ≡ true)

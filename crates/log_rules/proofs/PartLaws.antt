@@ -4,7 +4,6 @@ use mathlib.Core.List.{List, [], ◌∷◌, ◌++◌, append_assoc}
 use mathlib.Core.Logic.{◌⊎◌, inl, inr, ⊎_elim}
 use Prim.Native.Nat.{ℕ, zero, suc, ◌+◌, ◌*◌, ◌-◌, ◌≤◌, ◌<◌}
 use native.Mathlib.Nat.{add_comm, add-zero, mul-suc, add-sub_cancel_left}
-use native.Mathlib.Numerals.{add-one}
 use native.Mathlib.Omega.{arith}
 use lib.ListN.{length, take, drop, get_or, length-append, length-drop}
 use lib.Seq.{length-take-le, take-nil, take-take, drop-drop, take-append_seam, take_at, drop_at, get_or-take, get_or-drop}
@@ -37,14 +36,10 @@ part_first size start bytes some = part_byte size start bytes 0 some ∙ ap (λ 
 pub part_lent : (size start : ℕ) (bytes : List ℕ) → take (start + size - start) (drop start bytes) ≡ take size (drop start bytes)
 part_lent size start bytes = ap (λ k. take k (drop start bytes)) (add-sub_cancel_left start size)
 
--- one part after the other: behind the first part each has a number one less, and behind each is the next
+-- one part after the other: behind the first part each has a number one less
 pub behind_first : (size at : ℕ) (bytes : List ℕ) → drop (size * at) (drop size bytes) ≡ drop (size * suc at) bytes
 behind_first size at bytes =
     drop-drop (size * at) size bytes ∙ ap (λ n. drop n bytes) (add_comm size (size * at) ∙ sym (mul-suc size at))
-
-pub behind_each : (size at : ℕ) (bytes : List ℕ) → drop size (drop (size * at) bytes) ≡ drop (size * (at + 1)) bytes
-behind_each size at bytes =
-    drop-drop size (size * at) bytes ∙ ap (λ n. drop n bytes) (sym (ap (◌*◌ size) (add-one at) ∙ mul-suc size at))
 
 -- Bytes with another piece from a start up to an end.
 module _ (start end : ℕ) (piece bytes : List ℕ) (size : start + length piece ≡ end) (fits : end ≤ length bytes) where

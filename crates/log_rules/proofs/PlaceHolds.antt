@@ -10,7 +10,7 @@ use borrow.Author.Tests.{ltb-true, lt-ltb}
 use Rattle.refusals.specs.Refusals.{Outcome, done, refused}
 use Rattle.refusals.proofs.Laws.{both}
 use Rattle.log_rules.specs.declared.Place.{Place}
-use Rattle.log_rules.specs.declared.verify.Verified.TheVariants.{Bad}
+use Rattle.log_rules.specs.Verify.{Bad}
 use Rattle.log_rules.specs.Block.{slots}
 use Rattle.log_rules.specs.Good.{count_in, is_good}
 use Rattle.log_rules.specs.Region.{blocks_from, block_at, blocks_in}

@@ -1,21 +1,21 @@
 -- Laws of the search for a place: one pass over the blocks finds what the definition says. Assumes nothing.
 use mathlib.Core.Path.{◌≡◌, refl, ap, sym, ◌∙◌}
 use mathlib.Core.Bool.{Bool, true, false, cond, ◌&&◌, ◌||◌, not-eq-not}
-use mathlib.Core.List.{List, [], ◌∷◌}
-use Prim.Native.Nat.{ℕ, zero, suc, ◌+◌, ◌*◌, ◌-◌, ◌≤◌, ◌<◌}
+use mathlib.Core.List.{List, [], ◌∷◌, ◌++◌}
+use Prim.Native.Nat.{ℕ, zero, suc, ◌+◌}
 use native.Mathlib.Numerals.{add-one}
 use native.Mathlib.Omega.{arith}
 use lib.Dec.{eqb, ltb, eqb-suc-zero}
-use lib.ListN.{take, drop}
+use lib.ListN.{length}
 use borrow.Author.Tests.{lt-ltb}
 use Rattle.refusals.specs.Refusals.{Outcome, done, refused, after}
 use Rattle.log_rules.specs.declared.Place.{Place}
 use Rattle.log_rules.specs.Block.{slots, block_size}
 use Rattle.log_rules.specs.Good.{count_in, is_good}
-use Rattle.log_rules.specs.Region.{blocks_from, is_whole, block_at, blocks_in}
+use Rattle.log_rules.specs.Region.{blocks_from, is_whole, whole_blocks, blocks_in}
 use Rattle.log_rules.specs.Add.{place_at, first_free, some_used, free_behind_used, place_in}
 use Rattle.log_rules.specs.Tests.{or_else, place_with, place_then}
-use Rattle.log_rules.proofs.RegionLaws.{block_part, blocks_start, blocks_turn, blocks_end, whole_blocks_law, broken_blocks}
+use Rattle.log_rules.proofs.RegionLaws.{whole_next, whole_blocks_law, broken_blocks}
 
 -- where no slot is used, the search behind the last used one is the search from the front
 pub none_used : (number : ℕ) (blocks : List (List ℕ)) → some_used blocks ≡ false
@@ -109,22 +109,11 @@ placed_whole region place placed = (not-eq-not {a = is_whole region} {b = true})
     go : is_whole region ≡ false → ⊥
     go broken = let none = place_broken region broken in let z : ◌≡◌ {A = ℕ} 0 1 = cc in omega arith
 
--- the search over a region, block by block: its start, a turn with what is found with one block more, and its end
-pub search_starts : (region : List ℕ) → is_whole region ≡ true
-    → place_then (refused 21) 0 (blocks_from (blocks_in region - 0) (drop (block_size * 0) region)) ≡ place_in region
-search_starts region whole =
-    ap (place_then (refused 21) 0) (blocks_start (blocks_in region) region)
-    ∙ search_is 0 (blocks_from (blocks_in region) region)
-    ∙ sym (place_whole region whole)
+-- the search over a region, block by block: its start, and what is found with one block more
+pub search_starts : (region : List ℕ) → is_whole region ≡ true → place_then (refused 21) 0 (whole_blocks region) ≡ place_in region
+search_starts region whole = search_is 0 (whole_blocks region) ∙ sym (place_whole region whole)
 
-pub search_turn : (found found' : Outcome Place) (n at : ℕ) (region : List ℕ) → at < n
-    → found' ≡ place_with found at (take (block_size * at + block_size - block_size * at) (drop (block_size * at) region))
-    → place_then found' (at + 1) (blocks_from (n - (at + 1)) (drop (block_size * (at + 1)) region))
-    ≡ place_then found at (blocks_from (n - at) (drop (block_size * at) region))
-search_turn found found' n at region here next =
-    let next' : found' ≡ place_with found at (block_at at region) = next ∙ ap (place_with found at) (block_part at region) in
-    rw (next', blocks_turn n at region here, add-one)
-
-pub search_ends : (found : Outcome Place) (n at : ℕ) (region : List ℕ) → n ≤ at
-    → place_then found at (blocks_from (n - at) (drop (block_size * at) region)) ≡ found
-search_ends found n at region h = rw (blocks_end n at (drop (block_size * at) region) h)
+pub search_next : (found found' : Outcome Place) (number : ℕ) (left block rest : List ℕ) → left ≡ block ++ rest → length block ≡ block_size
+    → found' ≡ place_with found number block
+    → place_then found' (number + 1) (whole_blocks rest) ≡ place_then found number (whole_blocks left)
+search_next found found' number left block rest parted size next = rw (parted, whole_next block rest size, next, add-one)

@@ -1,17 +1,17 @@
 -- Laws of a region and its blocks: the block of a number, one block after the other, and another block put in. Assumes nothing.
-use mathlib.Core.Path.{◌≡◌, refl, ap, sym, ◌∙◌}
+use mathlib.Core.Path.{◌≡◌, refl, ap, ap₂, sym, ◌∙◌}
 use mathlib.Core.Bool.{true, false}
-use mathlib.Core.List.{List, [], ◌∷◌}
+use mathlib.Core.List.{List, ◌∷◌, ◌++◌}
 use mathlib.Core.Logic.{⊎_elim, inl, inr}
 use Prim.Native.Nat.{ℕ, zero, suc, ◌+◌, ◌*◌, ◌-◌, ◌≤◌, ◌<◌}
-use native.Mathlib.Nat.{sub-zero}
 use native.Mathlib.Omega.{arith}
-use lib.ListN.{length, take, drop, get_or}
+use lib.ListN.{length, take, drop, get_or, length-append}
+use lib.Seq.{take_at, drop_at}
 use Rattle.refusals.specs.Refusals.{done, refused, unless}
 use Rattle.log_rules.specs.Block.{block_size}
-use Rattle.log_rules.specs.Region.{blocks_from, is_whole, blocks_of, block_at, with_block, blocks_in}
+use Rattle.log_rules.specs.Region.{blocks_from, is_whole, whole_blocks, blocks_of, block_at, with_block, blocks_in}
 use Rattle.log_rules.proofs.EitherLaws.{lt_or_le, Beside}
-use Rattle.log_rules.proofs.PartLaws.{part_byte, part_lent, behind_first, behind_each, put_length, put_there, put_part, put_byte}
+use Rattle.log_rules.proofs.PartLaws.{part_byte, part_lent, behind_first, put_length, put_there, put_part, put_byte}
 
 -- so many blocks, and the block of a number
 pub blocks_length : (n : ℕ) (region : List ℕ) → length (blocks_from n region) ≡ n
@@ -24,20 +24,12 @@ blocks_at (suc n) zero region otherwise h = refl
 blocks_at (suc n) (suc at) region otherwise h =
     blocks_at n at (drop block_size region) otherwise (omega arith) ∙ ap (take block_size) (behind_first block_size at region)
 
--- a loop over them: its start, one turn, and its end
-pub blocks_start : (n : ℕ) (region : List ℕ) → blocks_from (n - 0) (drop (block_size * 0) region) ≡ blocks_from n region
-blocks_start n region = ap (λ k. blocks_from k region) (sub-zero n)
-
-pub blocks_turn : (n at : ℕ) (region : List ℕ) → at < n
-    → blocks_from (n - at) (drop (block_size * at) region)
-    ≡ block_at at region ∷ blocks_from (n - (at + 1)) (drop (block_size * (at + 1)) region)
-blocks_turn n at region h =
-    let one : n - at ≡ suc (n - (at + 1)) = omega arith in
-    ap (λ k. blocks_from k (drop (block_size * at) region)) one
-    ∙ ap (λ rest. block_at at region ∷ blocks_from (n - (at + 1)) rest) (behind_each block_size at region)
-
-pub blocks_end : (n at : ℕ) (region : List ℕ) → n ≤ at → blocks_from (n - at) region ≡ []
-blocks_end n at region h = let none : n - at ≡ 0 = omega arith in ap (λ k. blocks_from k region) none
+-- the first of its whole blocks, and those behind it
+pub whole_next : (block rest : List ℕ) → length block ≡ block_size → whole_blocks (block ++ rest) ≡ block ∷ whole_blocks rest
+whole_next block rest size =
+    let one : blocks_in (block ++ rest) ≡ suc (blocks_in rest) = omega (arith, length-append block rest, size) in
+    ap (λ n. blocks_from n (block ++ rest)) one
+    ∙ ap₂ (λ first behind. first ∷ blocks_from (blocks_in rest) behind) (take_at block rest block_size size) (drop_at block rest block_size size)
 
 -- the part of the region that a program takes for a block, from its first byte up to the next block's
 pub block_part : (at : ℕ) (region : List ℕ)

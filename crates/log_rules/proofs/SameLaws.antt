@@ -1,14 +1,12 @@
 -- Laws of bytes that are the same, part by part, and of zeros behind bytes. Assumes nothing.
 use mathlib.Core.Path.{◌≡◌, refl, ap, ap₂, sym, ◌∙◌}
-use mathlib.Core.Bool.{Bool, true, false, ◌&&◌, not-eq-not, and_assoc}
+use mathlib.Core.Bool.{true, false, ◌&&◌, not-eq-not, and_assoc}
 use mathlib.Core.List.{List, [], ◌∷◌, ◌++◌, append_assoc}
-use Prim.Native.Nat.{ℕ, zero, suc, ◌+◌, ◌-◌, ◌≤◌, ◌<◌}
+use Prim.Native.Nat.{ℕ, zero, suc, ◌+◌, ◌-◌, ◌≤◌}
 use native.Mathlib.Omega.{arith}
 use lib.Dec.{eqb}
-use native.Mathlib.Numerals.{add-one}
-use lib.ListN.{length, take, drop, get_or, replicate, length-append, length-replicate, length-drop, drop_of_length-le}
+use lib.ListN.{length, take, drop, replicate, length-append, length-replicate, length-drop}
 use lib.ListN.{replicate-append-replicate}
-use lib.Seq.{drop-cons}
 use borrow.Author.Tests.{eqb-true, eq-eqb}
 use Rattle.refusals.proofs.Laws.{both}
 use Rattle.log_rules.specs.Block.{filled}
@@ -58,14 +56,6 @@ pub length_filled : (size : ℕ) (bytes : List ℕ) → length bytes ≤ size �
 unfolding filled
 length_filled size bytes fits =
     omega (arith, length-append bytes (replicate (size - length bytes) 0), length-replicate {A = ℕ} (size - length bytes) 0)
-
--- a loop over zeros: one turn, and its end
-pub zero_turn : (bytes : List ℕ) (at : ℕ) {none : Bool} → at < length bytes → eqb (get_or bytes at 0) 0 ≡ none
-    → all_zero (drop at bytes) ≡ (none && all_zero (drop (at + 1) bytes))
-zero_turn bytes at h is = rw (drop-cons bytes at 0 h, ← is, add-one)
-
-pub zero_end : (bytes : List ℕ) (at : ℕ) → length bytes ≤ at → all_zero (drop at bytes) ≡ true
-zero_end bytes at h = rw (drop_of_length-le bytes h)
 
 -- zeros behind the first of them
 pub fewer : (n k : ℕ) (rest : List ℕ) → k ≤ n → drop k (replicate n 0 ++ rest) ≡ replicate (n - k) 0 ++ rest

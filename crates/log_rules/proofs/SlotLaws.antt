@@ -10,7 +10,7 @@ use lib.Seq.{length-take-le, take_all, take-take}
 use Rattle.log_rules.specs.Block.{slot_size, filled, slot_of, slots_of}
 use Rattle.log_rules.specs.Good.{telegram_in, telegrams_from, reads_well, all_read_well, same}
 use Rattle.log_rules.specs.Tests.{all_zero, slot_fits, slots_fit}
-use Rattle.log_rules.proofs.PartLaws.{drop_take, part_lent, behind_each}
+use Rattle.log_rules.proofs.PartLaws.{drop_take}
 use Rattle.log_rules.proofs.SameLaws.{same_true, same_length, same_refl, same_append, same_filled}
 use Rattle.log_rules.proofs.BlockLaws.{AllShort, reads_short, length_slot}
 
@@ -100,18 +100,3 @@ slots_fit_law (suc n) bytes fits =
     (same first (slot_of telegram)) (same (take (slot_size * n) rest) (slots_of telegrams))
     ∙ ap (λ s. (reads_well telegram && same first (slot_of telegram)) && s)
     (slots_fit_law n rest (omega (arith, length-drop slot_size bytes)))
-
--- a loop over them: one turn, and its end
-pub slots_turn : (count at : ℕ) (block : List ℕ) {fits : Bool} → at < count
-    → slot_fits (take (slot_size * at + slot_size - slot_size * at) (drop (slot_size * at) block)) ≡ fits
-    → slots_fit (count - at) (drop (slot_size * at) block)
-    ≡ (fits && slots_fit (count - (at + 1)) (drop (slot_size * (at + 1)) block))
-slots_turn count at block more is =
-    let left : count - at ≡ suc (count - (at + 1)) = omega arith in
-    ap (λ n. slots_fit n (drop (slot_size * at) block)) left
-    ∙ ap₂ (λ fits bytes. fits && slots_fit (count - (at + 1)) bytes)
-    (ap slot_fits (sym (part_lent slot_size (slot_size * at) block)) ∙ is)
-    (behind_each slot_size at block)
-
-pub slots_end : (count at : ℕ) (block : List ℕ) → count ≤ at → slots_fit (count - at) block ≡ true
-slots_end count at block all = let none : count - at ≡ 0 = omega arith in ap (λ n. slots_fit n block) none

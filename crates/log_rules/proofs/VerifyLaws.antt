@@ -1,17 +1,16 @@
 -- Laws of verifying: the first bad block is named, one block after the other. Assumes nothing.
-use mathlib.Core.Path.{◌≡◌, refl, ap, sym, ◌∙◌}
+use mathlib.Core.Path.{◌≡◌, refl, ap, ◌∙◌}
 use mathlib.Core.Bool.{Bool, true, false, cond}
-use mathlib.Core.List.{List, [], ◌∷◌}
-use Prim.Native.Nat.{ℕ, zero, suc, ◌+◌, ◌*◌, ◌-◌, ◌≤◌, ◌<◌}
+use mathlib.Core.List.{List, [], ◌∷◌, ◌++◌}
+use Prim.Native.Nat.{ℕ, zero, suc, ◌+◌, ◌<◌}
 use native.Mathlib.Numerals.{add-one}
 use native.Mathlib.Omega.{arith}
-use lib.ListN.{length, take, drop, get_or}
-use Rattle.log_rules.specs.declared.verify.Verified.TheVariants.{AllGood, Bad, Refused}
+use lib.ListN.{length, get_or}
 use Rattle.log_rules.specs.Block.{block_size}
 use Rattle.log_rules.specs.Good.{is_good}
-use Rattle.log_rules.specs.Region.{blocks_from, is_whole, blocks_in}
-use Rattle.log_rules.specs.Verify.{first_bad, verified_by, verify_of}
-use Rattle.log_rules.proofs.RegionLaws.{block_part, blocks_start, blocks_turn, blocks_end, whole_blocks_law, broken_blocks}
+use Rattle.log_rules.specs.Region.{blocks_from, is_whole, whole_blocks, blocks_in}
+use Rattle.log_rules.specs.Verify.{AllGood, Bad, Refused, first_bad, verified_by, verify_of}
+use Rattle.log_rules.proofs.RegionLaws.{whole_next, whole_blocks_law, broken_blocks}
 
 -- whole or not
 pub verify_whole : (region : List ℕ) → is_whole region ≡ true
@@ -41,20 +40,8 @@ passes_all number [] good = refl
 passes_all number (block ∷ blocks) good =
     rw (good 0 (omega arith)) (passes_all (suc number) blocks (λ k h. good (suc k) (omega arith)))
 
--- over a region, block by block: the start
-pub verify_starts : (region : List ℕ) → is_whole region ≡ true
-    → first_bad 0 (blocks_from (blocks_in region - 0) (drop (block_size * 0) region)) ≡ verify_of region
-verify_starts region whole =
-    ap (first_bad 0) (blocks_start (blocks_in region) region) ∙ sym (verify_whole region whole)
-
--- a turn: a good block is passed, a bad one is named
-pub verify_turn : (n at : ℕ) (region : List ℕ) {good : Bool} → at < n
-    → is_good (take (block_size * at + block_size - block_size * at) (drop (block_size * at) region)) ≡ good
-    → first_bad at (blocks_from (n - at) (drop (block_size * at) region))
-    ≡ cond good (first_bad (at + 1) (blocks_from (n - (at + 1)) (drop (block_size * (at + 1)) region))) (Bad 20 at)
-verify_turn n at region here is = rw (blocks_turn n at region here, add-one, ← is, block_part at region)
-
--- the end: all were good
-pub verify_ends : (n at : ℕ) (region : List ℕ) → n ≤ at
-    → first_bad at (blocks_from (n - at) (drop (block_size * at) region)) ≡ AllGood
-verify_ends n at region h = rw (blocks_end n at (drop (block_size * at) region) h)
+-- over a region, block by block: a good block is passed, a bad one is named
+pub verify_next : (number : ℕ) (left block rest : List ℕ) {good : Bool} → left ≡ block ++ rest → length block ≡ block_size
+    → good ≡ is_good block
+    → first_bad number (whole_blocks left) ≡ cond good (first_bad (number + 1) (whole_blocks rest)) (Bad 20 number)
+verify_next number left block rest parted size is = rw (parted, whole_next block rest size, ← is, add-one)

@@ -1,9 +1,17 @@
--- The promise about adding leaves nothing open: what an answer means determines the answer. Assumes nothing.
+-- What verify gives leaves nothing open: what it means determines the answer. Assumes nothing.
 use mathlib.Core.Path.{◌≡◌, refl}
-use Rattle.refusals.proofs.Laws.{back, told_apart}
-use Rattle.log_rules.specs.Answers.{add_answer}
-use Rattle.log_rules.specs.declared.add.AddAnswer.{AddAnswer}
-use Rattle.log_rules.specs.declared.add.AddAnswer.TheVariants.{Added, Refused}
+use Rattle.std.specs.Prelude.{Result, Ok, Err}
+use Rattle.log_rules.specs.declared.Damage.{Damage}
+use Rattle.log_rules.specs.declared.Damage.TheVariants.{NotWholeBlocks, BadBlock}
+use Rattle.log_rules.specs.Verify.{verified_as}
 
-pub add_told_apart : (a b : AddAnswer) → add_answer a ≡ add_answer b → a ≡ b
-add_told_apart = told_apart add_answer (back Added Refused) elim [ Added place ↦ refl | Refused number ↦ refl ]
+pub verified_told_apart : (a b : Result (Unit {0}) Damage) → verified_as a ≡ verified_as b → a ≡ b
+verified_told_apart (Ok a) (Ok b) e = refl
+verified_told_apart (Ok a) (Err NotWholeBlocks) e = cc
+verified_told_apart (Ok a) (Err (BadBlock b)) e = cc
+verified_told_apart (Err NotWholeBlocks) (Ok b) e = cc
+verified_told_apart (Err NotWholeBlocks) (Err NotWholeBlocks) e = refl
+verified_told_apart (Err NotWholeBlocks) (Err (BadBlock b)) e = cc
+verified_told_apart (Err (BadBlock a)) (Ok b) e = cc
+verified_told_apart (Err (BadBlock a)) (Err NotWholeBlocks) e = cc
+verified_told_apart (Err (BadBlock a)) (Err (BadBlock b)) e = let same : a ≡ b = cc in λ i. Err (BadBlock (same i))

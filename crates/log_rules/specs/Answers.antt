@@ -1,16 +1,10 @@
--- The answers of the log: for each of their cases, the paper's number or the value handed out.
-use Rattle.std.specs.Prelude.{List, [], ℕ, ◌+◌, ◌*◌}
+-- What reading back hands out: a telegram's bytes and where they stand, or the paper's number.
+use Rattle.std.specs.Prelude.{List, [], ℕ, ◌+◌, ◌*◌, Result, Ok, Err}
 use Rattle.std.specs.Borrow.{Bor}
 use Rattle.refusals.specs.Refusals.{Outcome, done, refused}
-use Rattle.log_rules.specs.declared.Place.{Place}
-use Rattle.log_rules.specs.declared.add.AddAnswer.{AddAnswer}
-use Rattle.log_rules.specs.declared.add.AddAnswer.TheVariants.{Added, Refused}
 use Rattle.log_rules.specs.Block.{slot_size, block_size}
-
--- where the telegram stands
-abbrev pub add_answer : AddAnswer → Outcome Place
-add_answer (Added place) = done place
-add_answer (Refused number) = refused number
+use Rattle.refusals.specs.declared.Refusal.{Refusal}
+use Rattle.refusals.specs.Numbers.{number}
 
 -- the byte of the region where the telegram of a slot begins: behind the slot's length byte
 abbrev pub telegram_place : ℕ → ℕ → ℕ
@@ -26,11 +20,16 @@ abbrev pub bytes_of : Outcome (List ℕ) → List ℕ
 bytes_of (done bytes) = bytes
 bytes_of (refused number) = []
 
--- where they begin: a telegram at its place, and the empty part at the region's first byte
-abbrev pub begin_of : Outcome (List ℕ) → ℕ → ℕ
-begin_of (done bytes) place = place
-begin_of (refused number) place = 0
-
 -- the byte of the region at a place, as memory has it: what begins there is no copy
 abbrev pub byte_at : Bor (List ℕ) → ℕ → ℕ × ℕ
 byte_at region place = (region.ref_ptr.0, region.ref_ptr.1 + place)
+
+-- what is handed out of the region: a telegram's bytes with where they begin, or what refuses it
+abbrev pub lent_at : Bor (List ℕ) → ℕ → Outcome (List ℕ) → Outcome (List ℕ × (ℕ × ℕ))
+lent_at region place (done bytes) = done (bytes, byte_at region place)
+lent_at region place (refused number) = refused number
+
+-- what the code hands out
+abbrev pub lent_as : Result (Bor (List ℕ)) Refusal → Outcome (List ℕ × (ℕ × ℕ))
+lent_as (Ok part) = done (part.now, part.ref_ptr)
+lent_as (Err refusal) = refused (number refusal)

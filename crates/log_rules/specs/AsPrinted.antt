@@ -3,12 +3,10 @@ use Rattle.std.specs.Prelude.{Bool, true, false, List, [], ◌∷◌, ◌++◌, 
 use Rattle.refusals.specs.Refusals.{Outcome, done, refused}
 use Rattle.ascii.specs.Ascii.{ascii}
 use Rattle.log_rules.specs.declared.Place.{Place}
-use Rattle.log_rules.specs.declared.verify.Verified.{Verified}
-use Rattle.log_rules.specs.declared.verify.Verified.TheVariants.{AllGood, Bad, Refused}
+use Rattle.log_rules.specs.Verify.{AllGood, Bad, Refused, Verified, verify_of}
 use Rattle.log_rules.specs.Check.{check_of}
 use Rattle.log_rules.specs.Block.{block_of}
 use Rattle.log_rules.specs.Good.{is_good}
-use Rattle.log_rules.specs.Verify.{verify_of}
 use Rattle.log_rules.specs.Add.{place_at, place_for}
 use Rattle.log_rules.specs.ReadBack.{read_back_of}
 

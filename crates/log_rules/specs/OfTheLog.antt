@@ -2,11 +2,10 @@
 use Rattle.std.specs.Prelude.{true, false, List, [], ◌∷◌, ◌≡◌, ℕ, zero, suc, ◌+◌, ◌*◌, ◌%◌, ◌/◌, ◌≤◌, ◌<◌, length, get_or, replicate}
 use Rattle.refusals.specs.Refusals.{Outcome, done, refused}
 use Rattle.log_rules.specs.declared.Place.{Place}
-use Rattle.log_rules.specs.declared.verify.Verified.TheVariants.{AllGood, Bad, Refused}
+use Rattle.log_rules.specs.Verify.{AllGood, Bad, Refused, verify_of}
 use Rattle.log_rules.specs.Block.{slots, slot_size, count_place, check_place, block_size}
 use Rattle.log_rules.specs.Good.{count_in, reads_well, all_read_well, is_good}
 use Rattle.log_rules.specs.Region.{is_whole, blocks_in, block_at, with_block}
-use Rattle.log_rules.specs.Verify.{verify_of}
 use Rattle.log_rules.specs.Add.{place_at, place_in, place_for, add_of}
 use Rattle.log_rules.specs.ReadBack.{read_back_of}
 use Rattle.log_rules.specs.Answers.{number_of, bytes_of}

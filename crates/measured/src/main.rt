@@ -10,13 +10,12 @@ ghost use Rattle.std.specs.Prelude.{◌≤◌, length, IfOk};
 
 use calendar::date::Date;
 use calendar::time::Time;
-use delivery_log::add::AddAnswer;
-use delivery_log::verify::Verified;
+use delivery_log::verify::Damage;
 use line::Reader;
-use record::{DatedLayout, Reception, Record, RecordAnswer, Status, TimeLayout};
+use record::{DatedLayout, Reception, Record, Status, TimeLayout};
 use std::io;
 use std::io::{ErrorKind, Read};
-use telegram::write::{Choice, Setting, WriteAnswer};
+use telegram::write::{Choice, Setting};
 
 const TELEGRAM: usize = 18;
 
@@ -66,10 +65,7 @@ fn writes(rec: Record, out: &mut [u8]) -> bool {
         control: true,
         advance: false,
     };
-    match telegram::write::write(rec, Choice::Named(setting), out) {
-        WriteAnswer::Written(_) => true,
-        WriteAnswer::Refused(_) => false,
-    }
+    telegram::write::write(rec, Choice::Named(setting), out).is_ok()
 }
 
 // Writes the records one behind another, where they have room; answers how many bytes they take.
@@ -88,75 +84,54 @@ fn write_each(data: &[u8], out: &mut [u8]) -> usize
     used
 }
 
-fn reads(bytes: &[u8]) -> bool {
-    match telegram::read::read(bytes, true) {
-        RecordAnswer::Good(_) => true,
-        RecordAnswer::Refused(_) => false,
-    }
-}
-
 fn read_each(data: &[u8]) -> u64 {
     data.chunks_exact(TELEGRAM)
-        .filter(|telegram| reads(telegram))
+        .filter(|bytes| telegram::read::read(bytes, true).is_ok())
         .count() as u64
 }
 
 // Uses a line up, and counts its events.
 fn events(data: &[u8]) -> u64 {
-    let length = data.len();
     let mut reader = Reader::fresh();
     let mut heard: u64 = 0;
-    let mut at: usize = 0;
-    while at < length {
-        let passed = line::pieces::use_up(reader, &data[at..length]);
-        let taken = passed.taken;
-        if taken == 0 {
-            return heard;
+    let mut rest = data;
+    while !rest.is_empty() {
+        let passed = line::pieces::use_up(reader, rest);
+        if passed.taken == 0 {
+            break;
         }
-        heard = std::num::wrapping_add_u64(heard, passed.count as u64);
+        heard = heard.wrapping_add(passed.count as u64);
         reader = passed.reader;
-        at += taken;
+        rest = &rest[passed.taken..];
     }
     heard
 }
 
 fn good_blocks(region: &[u8]) -> u64 {
     match delivery_log::verify::verify(region) {
-        Verified::AllGood => (region.len() / delivery_log::BLOCK_SIZE) as u64,
-        Verified::Bad(_, block) => block as u64,
-        Verified::Refused(_) => 0,
+        Ok(()) => (region.len() / delivery_log::BLOCK_SIZE) as u64,
+        Err(Damage::BadBlock(block)) => block as u64,
+        Err(Damage::NotWholeBlocks) => 0,
     }
 }
 
 fn adds(region: &mut [u8]) -> bool {
-    match delivery_log::add::add(region, b"\x02E3123456170496\n\r\x03") {
-        AddAnswer::Added(_) => true,
-        AddAnswer::Refused(_) => false,
-    }
+    let telegram = b"\x02E3123456170496\n\r\x03";
+    delivery_log::add::add(region, telegram).is_ok()
 }
 
-// No region has more free slots than bytes.
+// How often a telegram can be added. No region has more free slots than bytes.
 fn added(region: &mut [u8]) -> u64 {
-    let length = region.len();
-    for count in 0..length {
-        if !adds(region) {
-            return count as u64;
-        }
-    }
-    length as u64
+    (0..region.len()).take_while(|_| adds(region)).count() as u64
 }
 
 fn work(mode: u8, data: &mut [u8]) -> u64 {
-    if mode == b'l' {
-        return events(data);
+    match mode {
+        b'l' => events(data),
+        b'v' => good_blocks(data),
+        b'a' => added(data),
+        _ => read_each(data),
     }
-    if mode == b'v' {
-        return good_blocks(data);
-    }
-    if mode == b'a' {
-        return added(data);
-    }
-    read_each(data)
 }
 
 // Fills a piece as far as the input goes; answers how many bytes there were. A piece that is not full is the last.

@@ -4,4 +4,4 @@
 pub mod read;
 pub mod rule;
 
-pub use message_rules::{Message, MessageAnswer};
+pub use message_rules::Message;

@@ -7,7 +7,6 @@ use native.Mathlib.Omega.{arith}
 use lib.ListN.{length, get_or, length-append}
 use borrow.Author.Tests.{eq-eqb}
 use Rattle.refusals.specs.Refusals.{Outcome, done, refused, after}
-use Rattle.refusals.proofs.Laws.{back, told_apart}
 use Rattle.ascii.specs.Control.{etx}
 use Rattle.places_rules.specs.Places.{render}
 use Rattle.trailer_rules.specs.declared.Order.{Order}
@@ -24,9 +23,7 @@ use Rattle.remote_rules.proofs.RowLaws.{of_each}
 use Rattle.remote_rules.proofs.BackAndForth as commands
 use Rattle.message_rules.specs.declared.Message.{Message}
 use Rattle.message_rules.specs.declared.Message.TheVariants.{Stamp, Remote}
-use Rattle.message_rules.specs.declared.MessageAnswer.{MessageAnswer}
-use Rattle.message_rules.specs.declared.MessageAnswer.TheVariants as answer
-use Rattle.message_rules.specs.Messages.{message_of, refusal_of, inner_of, message_bytes, message_answer}
+use Rattle.message_rules.specs.Messages.{message_of, refusal_of, inner_of, message_bytes}
 use Rattle.message_rules.proofs.PlainLaws.{inner_short}
 use Rattle.message_rules.proofs.StampLaws.{no_command, accepted_no_command}
 
@@ -103,8 +100,3 @@ module _ (order : Order) (bytes : List ℕ) where
   pub as_stamp : (o : Outcome Record) → is_command bytes ≡ false → o ≡ read_in order true bytes → after o (λ rec. done (Stamp rec)) ≡ message_of order bytes
   unfolding message_of
   as_stamp o is e = rw (is, e)
-
--- the answer leaves nothing open: what it means determines it
-pub message_told_apart : (a b : MessageAnswer) → message_answer a ≡ message_answer b → a ≡ b
-message_told_apart =
-    told_apart message_answer (back answer.Good answer.Refused) elim [ answer.Good message ↦ refl | answer.Refused n ↦ refl ]

@@ -5,7 +5,7 @@ use mathlib.Core.List.{List}
 use mathlib.Core.Logic.{◌⊎◌, inl, inr}
 use Prim.Native.Nat.{ℕ, zero, suc, ◌≤◌}
 use native.Mathlib.Omega.{arith}
-use lib.Dec.{eqb, ltb}
+use lib.Dec.{eqb}
 use lib.ListN.{length, get_or}
 use Rattle.refusals.specs.Refusals.{◌when◌, ◌else◌, Outcome, done, refused, unless, after}
 use Rattle.refusals.proofs.Laws.{was_refused}
@@ -17,19 +17,14 @@ use Rattle.places_rules.specs.Places.{fault_of, fixed_holds, decimal_holds, code
 use Rattle.layouts_rules.specs.declared.Layout.{Layout}
 use Rattle.layouts_rules.specs.Layouts.{places_of, layout_of}
 use Rattle.trailer_rules.specs.declared.Order.{Order}
-use Rattle.calendar_rules.specs.TimeOfDay.{time_in_range}
-use Rattle.minutes.specs.Minutes.{within12_hours}
 use Rattle.telegram_rules.specs.Reading.{body_in, framed, carried, body_refusal, read_in}
-use Rattle.remote_rules.specs.declared.Moment.{Moment}
 use Rattle.remote_rules.specs.declared.Command.{Command}
-use Rattle.remote_rules.specs.declared.Command.TheVariants as command
 use Rattle.remote_rules.specs.declared.rows.Form.{Form}
 use Rattle.remote_rules.specs.declared.rows.Form.TheVariants.{Tim, TimAsked, DifAsked, PosAsked}
-use Rattle.remote_rules.specs.Rows.{row_of, is_command, is_named, by_sign, by_hemispheres, east_west_of, north_south_of, by_length, form_of}
-use Rattle.remote_rules.specs.Rule.{status_refusal, moment_refusal, position_in_range, spelled_well}
-use Rattle.remote_rules.specs.Rule as rules
+use Rattle.remote_rules.specs.Rows.{is_command, is_named, by_sign, by_hemispheres, east_west_of, north_south_of, by_length, form_of}
 use Rattle.remote_rules.specs.Reading.{digits_in, bytes_refusal, command_of}
 use Rattle.remote_rules.specs.Reading as reading
+use Rattle.remote_rules.proofs.NamesHold.{number_of, bytes_later}
 use Rattle.message_rules.specs.declared.Message.TheVariants.{Stamp, Remote}
 use Rattle.message_rules.specs.Messages.{message_of}
 
@@ -96,33 +91,6 @@ read_number order control bytes n e = go (layout_of (body_in order control bytes
         )
     go (refused k) small e = let same : k ≡ n = cc in omega (arith, same, small)
 
--- the same of a command
-moment_small : (moment : Moment) → moment_refusal moment ≤ 8
-unfolding moment_refusal
-moment_small moment =
-    else_small _ _ (when_small 5 (not (weekday_allowed moment.weekday)) (omega arith))
-    (else_small _ _ (when_small 6 (not (time_in_range moment.time && date_in_range moment.date)) (omega arith))
-    (else_small _ _ (when_small 7 (not (day_exists moment.date)) (omega arith))
-    (when_small 8 (not (weekday_agrees moment.weekday moment.date)) (omega arith))))
-
-status_small : (status : ℕ) → status_refusal status ≤ 8
-unfolding status_refusal
-status_small status = when_small 5 (ltb 255 status) (omega arith)
-
-command_small : (told : Command) → rules.refusal_of told ≤ 8
-command_small (command.Tim status moment) = else_small _ _ (status_small status) (moment_small moment)
-command_small (command.TimAsked status) = status_small status
-command_small (command.Dif difference) = when_small 6 (not (within12_hours difference)) (omega arith)
-command_small command.DifAsked = omega arith
-command_small (command.Pos position) = when_small 6 (not (position_in_range position)) (omega arith)
-command_small command.PosAsked = omega arith
-
-bytes_small : (form : Form) (bytes : List ℕ) → bytes_refusal form bytes ≤ 8
-unfolding bytes_refusal
-bytes_small form bytes =
-    else_small _ _ (fault_small (every fixed_holds (row_of form) bytes) (every decimal_holds (row_of form) bytes) (every code_holds (row_of form) bytes))
-    (else_small _ _ (when_small 6 (not (spelled_well form (digits_in form bytes))) (omega arith)) (command_small (reading.carried form bytes)))
-
 -- the numbers of reading
 abbrev pub ReadingNumber : ℕ → Type 0
 ReadingNumber n = (n ≤ 8) ⊎ (n ≡ 22)
@@ -157,15 +125,9 @@ unfolding command_of
 command_number bytes n e = go (form_of bytes) (form_number bytes) e
   where
     go : (found : Outcome Form) → OfForm found
-        → after found (λ form. unless (2 when not (framed bytes) else bytes_refusal form bytes) (reading.carried form bytes)) ≡ refused n → ReadingNumber n
+        → after found (λ form. unless (number_of bytes form) (reading.carried form bytes)) ≡ refused n → ReadingNumber n
     go (done form) small e =
-        let number = 2 when not (framed bytes) else bytes_refusal form bytes in
-        inl
-        (omega (
-          arith,
-          was_refused number n (reading.carried form bytes) e,
-          else_small (2 when not (framed bytes)) (bytes_refusal form bytes) (when_small 2 (not (framed bytes)) (omega arith)) (bytes_small form bytes),
-        ))
+        inl (omega (arith, was_refused (number_of bytes form) n (reading.carried form bytes) e, (bytes_later bytes form).0))
     go (refused k) small e = let same : k ≡ n = cc in rw (← same) small
 
 -- and of a message

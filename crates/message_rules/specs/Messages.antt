@@ -1,6 +1,6 @@
 -- Document 02, h: what a framed telegram is, a stamp of document 01 or a remote command, and what it is refused for.
 use Rattle.std.specs.Prelude.{true, cond, List, [], ◌∷◌, ◌++◌, ℕ}
-use Rattle.refusals.specs.Refusals.{Outcome, done, refused, after}
+use Rattle.refusals.specs.Refusals.{Outcome, done, after}
 use Rattle.ascii.specs.Control.{stx, etx}
 use Rattle.trailer_rules.specs.declared.Order.{Order}
 use Rattle.trailer_rules.specs.Trailer.{in_order}
@@ -13,8 +13,6 @@ use Rattle.remote_rules.specs.Reading.{command_of}
 use Rattle.remote_rules.specs.Writing.{inner_bytes}
 use Rattle.message_rules.specs.declared.Message.{Message}
 use Rattle.message_rules.specs.declared.Message.TheVariants.{Stamp, Remote}
-use Rattle.message_rules.specs.declared.MessageAnswer.{MessageAnswer}
-use Rattle.message_rules.specs.declared.MessageAnswer.TheVariants as answer
 
 -- "a framed telegram whose fifth character, STX included, is a colon is a remote command and is judged by these rules only"; every other by
 -- document 01, in the order of its line. The fifth character is looked at before any exchange of the trailer
@@ -37,8 +35,3 @@ inner_of order (Remote command) = inner_bytes command
 -- the bytes of a message, "always STX to .. ETX"
 abbrev pub message_bytes : Order → Message → List ℕ
 message_bytes order message = stx ∷ inner_of order message ++ etx ∷ []
-
--- what is handed out: for each case the paper's number or the message
-abbrev pub message_answer : MessageAnswer → Outcome Message
-message_answer (answer.Good message) = done message
-message_answer (answer.Refused number) = refused number

@@ -4,14 +4,8 @@
 use record_rules::Record;
 use remote_rules::Command;
 
-#[derive(Clone, Copy)]
+#[derive(Clone, Copy, Debug, PartialEq, Eq)]
 pub enum Message {
     Stamp(Record),
     Remote(Command),
-}
-
-#[derive(Clone, Copy)]
-pub enum MessageAnswer {
-    Good(Message),
-    Refused(u8),
 }

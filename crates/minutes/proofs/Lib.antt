@@ -1,2 +1,1 @@
 pub mod MinutesLaws
-mod SignedLaws

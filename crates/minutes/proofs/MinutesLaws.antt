@@ -6,7 +6,7 @@ use native.Mathlib.Omega.{arith}
 use lib.IntN.{ℤ, pos, negsuc, neg_ℤ}
 use Rattle.minutes.specs.Minutes.{signed, is_minus, size_of, hours_of, minutes_of}
 
-pub size_neg : (d : ℤ) → size_of (neg_ℤ d) ≡ size_of d
+size_neg : (d : ℤ) → size_of (neg_ℤ d) ≡ size_of d
 size_neg (pos zero) = refl
 size_neg (pos (suc n)) = refl
 size_neg (negsuc n) = refl

@@ -3,34 +3,23 @@
 #![tactic(auto)]
 
 ghost use Rattle.std.specs.Prelude.{◌≡◌, map, ◌%◌};
-ghost use Rattle.places_rules.specs.Places.{place, is_decimal, is_capital, code_value, kept_at, place_fault, found_in, code_character, byte_at, render, over};
+ghost use Rattle.refusals.specs.Numbers.{number_if};
+ghost use Rattle.places_rules.specs.Places.{place, is_capital, code_value, kept_at, place_fault, finding, found_in, code_character, byte_at, render, over};
 
 pub use places_rules::{FIRST_CODE, FIRST_DECIMAL, Found, SLOTS};
-use refusals::{DIGIT, FIXED_CHARACTER, NONE, STATUS_OR_WEEKDAY, lower};
-
-fn is_decimal(byte: u8) -> bool
-    ensures { result ≡ is_decimal byte }
-{
-    if byte < b'0' {
-        return false;
-    }
-    byte <= b'9'
-}
+use refusals::{Refusal, lowest};
 
 fn is_capital(byte: u8) -> bool
     ensures { result ≡ is_capital byte }
 {
-    if byte < b'A' {
-        return false;
-    }
-    byte <= b'F'
+    matches!(byte, b'A'..=b'F')
 }
 
 // The value of a character 0 to 9 or A to F, and 0 of any other.
 fn code_value(byte: u8) -> u8
     ensures { result ≡ code_value byte }
 {
-    if is_decimal(byte) {
+    if byte.is_ascii_digit() {
         return byte - b'0';
     }
     if is_capital(byte) {
@@ -43,62 +32,63 @@ fn code_value(byte: u8) -> u8
 #[derive(Clone, Copy)]
 struct Seen {
     value: u8,
-    fault: u8,
+    fault: Option<Refusal>,
 }
 
 fn see(at: u8, byte: u8, before: u8) -> Seen
-    ensures { (result.value ≡ kept_at (place at) byte before) × (result.fault ≡ place_fault (place at) byte) }
+    ensures { (result.value ≡ kept_at (place at) byte before) × (number_if result.fault ≡ place_fault (place at) byte) }
 {
     if at < FIRST_DECIMAL {
         if byte == at {
             return Seen {
                 value: before,
-                fault: NONE,
+                fault: None,
             };
         }
         return Seen {
             value: before,
-            fault: FIXED_CHARACTER,
+            fault: Some(Refusal::FixedCharacter),
         };
     }
-    if is_decimal(byte) {
+    if byte.is_ascii_digit() {
         return Seen {
             value: byte - b'0',
-            fault: NONE,
+            fault: None,
         };
     }
     if at < FIRST_CODE {
         return Seen {
             value: code_value(byte),
-            fault: DIGIT,
+            fault: Some(Refusal::Digit),
         };
     }
     if is_capital(byte) {
         return Seen {
             value: byte - 55,
-            fault: NONE,
+            fault: None,
         };
     }
     Seen {
         value: 0,
-        fault: STATUS_OR_WEEKDAY,
+        fault: Some(Refusal::StatusOrWeekday),
     }
 }
 
 // What a row finds in some bytes, up to the end of the shorter one.
 pub fn scan(row: &[u8], bytes: &[u8]) -> Found
-    ensures { result ≡ found_in (map place row.now) bytes.now }
+    ensures { finding result ≡ found_in (map place row.now) bytes.now }
 {
     let mut digits = [0u8; SLOTS];
-    let mut fault = NONE;
-    let mut at = 0;
-    while at < row.len() && at < bytes.len() {
+    let mut fault = None;
+    for at in 0..row.len().min(bytes.len()) {
         let here = row[at];
         let slot = here as usize % SLOTS;
         let seen = see(here, bytes[at], digits[slot]);
         digits[slot] = seen.value;
-        fault = lower(seen.fault, fault);
-        at += 1;
+        // Most places have no fault, and a test is quicker than a copy.
+        if seen.fault.is_some() {
+            fault = lowest(seen.fault, fault);
+        }
     }
     Found { digits, fault }
 }
@@ -128,9 +118,7 @@ fn byte_at(digits: &[u8; SLOTS], at: u8) -> u8
 pub fn render(row: &[u8], digits: &[u8; SLOTS], out: &mut [u8])
     ensures { out.new ≡ over (render (map place row.now) digits.now) out.old }
 {
-    let mut at = 0;
-    while at < row.len() && at < out.len() {
+    for at in 0..row.len().min(out.len()) {
         out[at] = byte_at(digits, row[at]);
-        at += 1;
     }
 }

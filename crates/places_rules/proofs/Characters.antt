@@ -5,8 +5,14 @@ use Prim.Native.Nat.{ℕ, ◌+◌, ◌-◌, ◌%◌, ◌≤◌, ◌<◌}
 use native.Mathlib.Omega.{arith}
 use lib.Dec.{ltb}
 use borrow.Author.Tests.{leb-true, le-leb, lt-leb, lt-ltb, le-ltb, ltb-true, ltb-false}
+use Rattle.std.specs.Char.{is_ascii_digit}
 use Rattle.refusals.proofs.Laws.{both}
 use Rattle.places_rules.specs.Places.{is_decimal, is_capital, code_value, code_character}
+
+-- "0 to 9" is what the library's test of a digit passes
+pub decimal_is_digit : (byte : ℕ) → is_decimal byte ≡ is_ascii_digit byte
+unfolding is_decimal
+decimal_is_digit byte = refl
 
 pub decimal_bounds : (byte : ℕ) → is_decimal byte ≡ true → (48 ≤ byte) × (byte ≤ 57)
 unfolding is_decimal

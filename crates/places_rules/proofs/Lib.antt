@@ -4,3 +4,4 @@ pub mod Scanning
 pub mod Rendering
 pub mod Rows
 pub mod RoundTrip
+pub mod Whole

@@ -1,10 +1,13 @@
 -- Laws of rendering: a row's bytes over a buffer, one place after the other. Assumes nothing.
-use mathlib.Core.Path.{◌≡◌, ap, ap₂, sym, ◌∙◌}
+use mathlib.Core.Path.{◌≡◌, refl, ap, ap₂, sym, ◌∙◌}
+use mathlib.Core.Bool.{Bool, true, false}
 use mathlib.Core.List.{List, [], map}
-use Prim.Native.Nat.{ℕ, ◌+◌, ◌≤◌, ◌<◌}
+use Prim.Native.Nat.{ℕ, ◌+◌, ◌≤◌, ◌<◌, min}
 use native.Mathlib.Nat.{zero-add}
 use native.Mathlib.Numerals.{add-one}
 use native.Mathlib.Omega.{arith}
+use lib.Dec.{leb}
+use borrow.Author.Tests.{leb-true, leb-false}
 use lib.ListN.{length, take, drop, get_or, set, length-map, get_or-map, drop_of_length-le}
 use lib.Seq.{paste, paste-zero, paste-suc, take_all}
 use Rattle.places_rules.specs.Places.{Place, place, byte_at, render, over}
@@ -37,7 +40,7 @@ module _ (row : List ℕ) (digits : List ℕ) (out : List ℕ) where
       ∙ ap laid (sym (add-one at))
 
   -- all of the row, or all of the buffer
-  pub laid_row : length row ≤ length out → laid (length row) ≡ over (render (map place row) digits) out
+  laid_row : length row ≤ length out → laid (length row) ≡ over (render (map place row) digits) out
   unfolding over
   laid_row h =
       let all : take (length out) (render (map place row) digits) ≡ render (map place row) digits =
@@ -46,10 +49,17 @@ module _ (row : List ℕ) (digits : List ℕ) (out : List ℕ) where
       take_all (length row) _ (omega (arith, length_bytes)) in
       rw (all, all', length_bytes, zero-add)
 
-  pub laid_out : length out ≤ length row → laid (length out) ≡ over (render (map place row) digits) out
+  laid_out : length out ≤ length row → laid (length out) ≡ over (render (map place row) digits) out
   unfolding over
   laid_out h =
       let none : drop (length out) out ≡ [] = drop_of_length-le out {i = length out} (omega arith) in
       let none' : drop (length (render (map place row) digits)) out ≡ [] =
       drop_of_length-le out {i = length (render (map place row) digits)} (omega (arith, length_bytes)) in
       rw (zero-add, none, none')
+
+  pub laid_all : (n : ℕ) → n ≡ min (length row) (length out) → laid n ≡ over (render (map place row) digits) out
+  laid_all n e = go (leb (length row) (length out)) refl
+    where
+      go : (t : Bool) → leb (length row) (length out) ≡ t → laid n ≡ over (render (map place row) digits) out
+      go true fits = let h = leb-true _ _ fits in let all : n ≡ length row = omega arith in rw all (laid_row h)
+      go false fits = let h = leb-false _ _ fits in let all : n ≡ length out = omega arith in rw all (laid_out (omega arith))

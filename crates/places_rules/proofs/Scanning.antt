@@ -2,8 +2,10 @@
 use mathlib.Core.Path.{◌≡◌, refl, ap, sym, ◌∙◌}
 use mathlib.Core.Bool.{Bool, true, false, cond, ◌&&◌}
 use mathlib.Core.List.{List, [], ◌∷◌, map}
-use Prim.Native.Nat.{ℕ, suc, ◌+◌, ◌%◌, ◌≤◌, ◌<◌}
-use lib.Dec.{ltb}
+use Prim.Native.Nat.{ℕ, suc, ◌+◌, ◌%◌, ◌≤◌, ◌<◌, min}
+use lib.Dec.{leb, ltb}
+use borrow.Author.Tests.{leb-true, leb-false}
+use native.Mathlib.Omega.{arith}
 use native.Mathlib.Numerals.{add-one}
 use lib.ListN.{length, drop, get_or, set, drop_of_length-le}
 use lib.Seq.{drop-cons, set-get_or}
@@ -11,13 +13,13 @@ use Rattle.refusals.specs.Refusals.{lower}
 use Rattle.refusals.proofs.Laws.{lower_none, lower_assoc}
 use Rattle.places_rules.specs.Places.{Place, fixed, decimal, code, place, fixed_holds, decimal_holds, code_holds, every, store, kept_at}
 use Rattle.places_rules.specs.Places.{gather, fault_of, row_fault, place_fault, slots, first_decimal, first_code, no_digits, found_in}
-use Rattle.places_rules.specs.declared.Found.{Found}
+use Rattle.places_rules.specs.Places.{Finding}
 
 -- what is found in the end, from what was found so far
-abbrev pub onward : List Place → List ℕ → Found → Found
+abbrev pub onward : List Place → List ℕ → Finding → Finding
 onward row bytes so_far = record { digits = gather row bytes so_far.digits; fault = lower (row_fault row bytes) so_far.fault }
 
-abbrev pub fresh : Found
+abbrev pub fresh : Finding
 fresh = record { digits = no_digits; fault = 0 }
 
 -- the fault of two parts is the lower of their faults
@@ -41,10 +43,10 @@ unfolding found_in
 onward_all row bytes i = record { digits = gather row bytes no_digits; fault = lower_none (row_fault row bytes) i }
 
 -- one place seen
-abbrev taken : Found → Place → ℕ → Found
+abbrev taken : Finding → Place → ℕ → Finding
 taken before p byte = record { digits = store p byte before.digits; fault = lower (place_fault p byte) before.fault }
 
-onward_cons : (p : Place) (row : List Place) (byte : ℕ) (bytes : List ℕ) (so_far : Found)
+onward_cons : (p : Place) (row : List Place) (byte : ℕ) (bytes : List ℕ) (so_far : Finding)
     → onward (p ∷ row) (byte ∷ bytes) so_far ≡ onward row bytes (taken so_far p byte)
 onward_cons p row byte bytes so_far =
     let fault =
@@ -66,7 +68,7 @@ store_at n byte digits = go (ltb n first_decimal) (ltb n first_code)
     go false false = refl
 
 -- one turn
-pub onward_step : (row bytes : List ℕ) (at : ℕ) (so_far next : Found) → at < length row → at < length bytes
+pub onward_step : (row bytes : List ℕ) (at : ℕ) (so_far next : Finding) → at < length row → at < length bytes
     → next.digits ≡ set so_far.digits (get_or row at 0 % slots) (kept_at (place (get_or row at 0)) (get_or bytes at 0) (get_or so_far.digits (get_or row at 0 % slots) 0))
     → next.fault ≡ lower (place_fault (place (get_or row at 0)) (get_or bytes at 0)) so_far.fault
     → onward (map place (drop (at + 1) row)) (drop (at + 1) bytes) next
@@ -80,14 +82,17 @@ onward_step row bytes at so_far next r b d f =
     (sym (onward_cons (place p) (map place (drop (suc at) row)) byte (drop (suc at) bytes) so_far))
 
 -- nothing left
-no_bytes : (row : List Place) (so_far : Found) → onward row [] so_far ≡ so_far
+no_bytes : (row : List Place) (so_far : Finding) → onward row [] so_far ≡ so_far
 no_bytes [] so_far = refl
 no_bytes (p ∷ row) so_far = refl
 
-pub onward_row_ends : (row bytes : List ℕ) (at : ℕ) (so_far : Found) → length row ≤ at
+pub onward_ends : (row bytes : List ℕ) (at : ℕ) (so_far : Finding) → min (length row) (length bytes) ≤ at
     → onward (map place (drop at row)) (drop at bytes) so_far ≡ so_far
-onward_row_ends row bytes at so_far h = rw (drop_of_length-le row h)
-
-pub onward_bytes_end : (row bytes : List ℕ) (at : ℕ) (so_far : Found) → length bytes ≤ at
-    → onward (map place (drop at row)) (drop at bytes) so_far ≡ so_far
-onward_bytes_end row bytes at so_far h = rw (drop_of_length-le bytes h) (no_bytes (map place (drop at row)) so_far)
+onward_ends row bytes at so_far h = go (leb (length row) at) refl
+  where
+    go : (t : Bool) → leb (length row) at ≡ t → onward (map place (drop at row)) (drop at bytes) so_far ≡ so_far
+    go true e = let row_ends = leb-true _ _ e in rw (drop_of_length-le row row_ends)
+    go false e =
+        let left = leb-false _ _ e in
+        let bytes_end : length bytes ≤ at = omega arith in
+        rw (drop_of_length-le bytes bytes_end) (no_bytes (map place (drop at row)) so_far)

@@ -1,6 +1,7 @@
 -- Document 01, "The seven layouts" and "Refusal numbers" 3 to 5: the places of a row, and the bytes that fit them.
 use Rattle.std.specs.Prelude.{Bool, true, cond, not, ◌&&◌, ◌||◌, List, [], ◌∷◌, ◌++◌, map, ℕ, ◌+◌, ◌-◌, ◌%◌, leb, ltb, eqb, length, take, drop, get_or, set, replicate}
 use Rattle.refusals.specs.Refusals.{◌when◌, ◌else◌}
+use Rattle.refusals.specs.Numbers.{number_if}
 use Rattle.places_rules.specs.declared.Found.{Found}
 
 -- what may stand at a place: one fixed character; a decimal digit; a status or weekday character. Digits have slots
@@ -93,11 +94,19 @@ row_fault row bytes = fault_of (every fixed_holds row bytes) (every decimal_hold
 abbrev pub place_fault : Place → ℕ → ℕ
 place_fault p byte = fault_of (fixed_holds p byte) (decimal_holds p byte) (code_holds p byte)
 
+-- what a row finds: its digits, and the number of its fault, or 0
+pub record Finding : Type 0 where
+  pub digits : List ℕ
+  pub fault : ℕ
+
+abbrev pub finding : Found → Finding
+finding found = record { digits = found.digits; fault = number_if found.fault }
+
 -- all of a row seen, from empty slots on
 abbrev pub no_digits : List ℕ
 no_digits = replicate slots 0
 
-unfoldable pub found_in : List Place → List ℕ → Found
+unfoldable pub found_in : List Place → List ℕ → Finding
 found_in row bytes = record { digits = gather row bytes no_digits; fault = row_fault row bytes }
 
 -- the character of a value 0 to 15

@@ -1,6 +1,8 @@
 // Rows of places: what a row finds in bytes, and the bytes that it makes of digits. No code.
 #![tactic(auto)]
 
+use refusals::Refusal;
+
 // The slots that a row's digits have.
 pub const SLOTS: usize = 32;
 
@@ -11,10 +13,10 @@ pub const FIRST_DECIMAL: u8 = 128;
 pub const FIRST_CODE: u8 = FIRST_DECIMAL + SLOTS as u8;
 
 // What a row finds in some bytes.
-#[derive(Clone, Copy)]
+#[derive(Clone, Copy, Debug, PartialEq, Eq)]
 pub struct Found {
     // The digits, each in the slot that its place names.
     pub digits: [u8; SLOTS],
-    // 3, 4 or 5, the lowest that some place gives, or 0.
-    pub fault: u8,
+    // The lowest refusal that some place gives, of 3, 4 and 5.
+    pub fault: Option<Refusal>,
 }

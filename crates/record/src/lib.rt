@@ -8,4 +8,4 @@ pub mod season;
 mod sixty;
 pub mod utc;
 
-pub use record_rules::{DatedLayout, Reception, Record, RecordAnswer, Status, TimeLayout};
+pub use record_rules::{DatedLayout, Reception, Record, Status, TimeLayout};

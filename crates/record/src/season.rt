@@ -2,10 +2,10 @@
 // Nothing here knows a record, so that the rule for a record may ask for the shift.
 ghost use Rattle.std.specs.Prelude.{◌≡◌};
 ghost use Rattle.record_rules.specs.Season.{season_shift, to_utc};
-ghost use Rattle.record_rules.specs.Answers.{utc_answer};
+ghost use Rattle.refusals.specs.Numbers.{outcome};
 
-pub use record_rules::season::{Count, LocalSeconds, UtcAnswer, UtcSeconds};
-use refusals::OUTSIDE_CALENDAR;
+pub use record_rules::season::{Count, LocalSeconds, UtcSeconds};
+use refusals::Refusal;
 
 // The calendar has 36,525 days of 86,400 seconds.
 const CALENDAR_SECONDS: u32 = 36525 * 86400;
@@ -14,22 +14,16 @@ const CALENDAR_SECONDS: u32 = 36525 * 86400;
 fn season_shift(daylight: bool) -> u32
     ensures { result ≡ season_shift daylight }
 {
-    if daylight {
-        return 7200;
-    }
-    3600
+    if daylight { 7200 } else { 3600 }
 }
 
 // The season shift is the only way from local seconds to UTC seconds.
-pub fn to_utc(local: LocalSeconds, daylight: bool) -> UtcAnswer
-    ensures { utc_answer result ≡ to_utc local daylight }
+pub fn to_utc(local: LocalSeconds, daylight: bool) -> Result<UtcSeconds, Refusal>
+    ensures { outcome result ≡ to_utc local daylight }
 {
     let shift = season_shift(daylight);
-    if local.0 < shift {
-        return UtcAnswer::Refused(OUTSIDE_CALENDAR);
+    if local.0 < shift || CALENDAR_SECONDS <= local.0 - shift {
+        return Err(Refusal::OutsideCalendar);
     }
-    if CALENDAR_SECONDS <= local.0 - shift {
-        return UtcAnswer::Refused(OUTSIDE_CALENDAR);
-    }
-    UtcAnswer::Utc(UtcSeconds(local.0 - shift))
+    Ok(UtcSeconds(local.0 - shift))
 }

@@ -3,16 +3,15 @@ ghost use Rattle.std.specs.Prelude.{◌≡◌};
 ghost use Rattle.record_rules.specs.Moment.{as_marked, in_utc, moment_of};
 ghost use Rattle.record_rules.specs.Rule.{is60};
 ghost use Rattle.record_rules.specs.Utc.{numbered_as, own_seconds, count_of, utc_seconds};
-ghost use Rattle.record_rules.specs.Answers.{record_answer, count_answer, utc_answer};
+ghost use Rattle.refusals.specs.Numbers.{outcome};
 
+use super::Record;
 use super::next::next_second;
-use super::rule::refusal;
-use super::season::{Count, LocalSeconds, UtcAnswer, UtcSeconds, to_utc};
-use super::{Record, RecordAnswer};
-use calendar::date::{Date, DayAnswer};
-use calendar::time::{SecondAnswer, Time};
-pub use record_rules::utc::CountAnswer;
-use refusals::{NO_DATE, NONE};
+use super::rule::check;
+use super::season::{Count, LocalSeconds, UtcSeconds, to_utc};
+use calendar::date::{Date, day_number};
+use calendar::time::{Time, second_of_day};
+use refusals::Refusal;
 
 fn as_marked(utc: bool, seconds: u32) -> Count
     ensures { result ≡ as_marked utc seconds }
@@ -24,25 +23,19 @@ fn as_marked(utc: bool, seconds: u32) -> Count
 }
 
 // The seconds of a date and a time of day since 1 January 1980, 00:00; 6 and 7 where the calendar or the day has no such.
-fn moment(utc: bool, date: Date, time: Time) -> CountAnswer
-    ensures { count_answer result ≡ moment_of utc date time }
+fn moment(utc: bool, date: Date, time: Time) -> Result<Count, Refusal>
+    ensures { outcome result ≡ moment_of utc date time }
 {
-    match calendar::date::day_number(date) {
-        DayAnswer::Refused(number) => CountAnswer::Refused(number),
-        DayAnswer::Day(day) => match calendar::time::second_of_day(time) {
-            SecondAnswer::Refused(number) => CountAnswer::Refused(number),
-            SecondAnswer::Second(second) => {
-                CountAnswer::Counted(as_marked(utc, 86400 * day + second))
-            }
-        },
-    }
+    let day = day_number(date)?;
+    let second = second_of_day(time)?;
+    Ok(as_marked(utc, 86400 * day + second))
 }
 
-fn own_seconds(rec: Record) -> CountAnswer
-    ensures { count_answer result ≡ own_seconds rec }
+fn own_seconds(rec: Record) -> Result<Count, Refusal>
+    ensures { outcome result ≡ own_seconds rec }
 {
     match rec {
-        Record::TimeOnly(_, _) => CountAnswer::Refused(NO_DATE),
+        Record::TimeOnly(_, _) => Err(Refusal::NoDate),
         Record::Dated(_, status, _, date, time) => moment(status.utc, date, time),
     }
 }
@@ -50,56 +43,46 @@ fn own_seconds(rec: Record) -> CountAnswer
 fn is_60(rec: Record) -> bool
     ensures { result ≡ is60 rec }
 {
-    match rec {
-        Record::Dated(_, _, _, _, time) => time.second == 60,
-        Record::TimeOnly(_, time) => time.second == 60,
-    }
+    let (Record::Dated(_, _, _, _, time) | Record::TimeOnly(_, time)) = rec;
+    time.second == 60
 }
 
 // The record whose number a record has: a second 60 has that of the second that follows it, any other its own.
-fn numbered_as(rec: Record) -> RecordAnswer
-    ensures { record_answer result ≡ numbered_as rec }
+fn numbered_as(rec: Record) -> Result<Record, Refusal>
+    ensures { outcome result ≡ numbered_as rec }
 {
     if is_60(rec) {
         return next_second(rec);
     }
-    let refused = refusal(rec);
-    if refused != NONE {
-        return RecordAnswer::Refused(refused);
-    }
-    RecordAnswer::Good(rec)
+    check(rec)?;
+    Ok(rec)
 }
 
 // A dated record's seconds since 1 January 1980, 00:00, in its own time. 12 for a second 60 with none behind it, 14 where it carries
 // no date.
-pub fn count(rec: Record) -> CountAnswer
-    ensures { count_answer result ≡ count_of rec }
+pub fn count(rec: Record) -> Result<Count, Refusal>
+    ensures { outcome result ≡ count_of rec }
 {
-    match numbered_as(rec) {
-        RecordAnswer::Refused(number) => CountAnswer::Refused(number),
-        RecordAnswer::Good(own) => own_seconds(own),
-    }
+    own_seconds(numbered_as(rec)?)
 }
 
 // A count of UTC seconds is not shifted.
-fn in_utc(daylight: bool, counted: Count) -> UtcAnswer
-    ensures { utc_answer result ≡ in_utc daylight counted }
+fn in_utc(daylight: bool, counted: Count) -> Result<UtcSeconds, Refusal>
+    ensures { outcome result ≡ in_utc daylight counted }
 {
     match counted {
         Count::Local(local) => to_utc(local, daylight),
-        Count::Utc(utc) => UtcAnswer::Utc(utc),
+        Count::Utc(utc) => Ok(utc),
     }
 }
 
 // A dated record's seconds in UTC. 12 before the calendar and behind it, 14 where it carries no date.
-pub fn utc_seconds(rec: Record) -> UtcAnswer
-    ensures { utc_answer result ≡ utc_seconds rec }
+pub fn utc_seconds(rec: Record) -> Result<UtcSeconds, Refusal>
+    ensures { outcome result ≡ utc_seconds rec }
 {
-    match count(rec) {
-        CountAnswer::Refused(number) => UtcAnswer::Refused(number),
-        CountAnswer::Counted(counted) => match rec {
-            Record::TimeOnly(_, _) => UtcAnswer::Refused(NO_DATE),
-            Record::Dated(_, status, _, _, _) => in_utc(status.daylight, counted),
-        },
+    let counted = count(rec)?;
+    match rec {
+        Record::TimeOnly(_, _) => Err(Refusal::NoDate),
+        Record::Dated(_, status, _, _, _) => in_utc(status.daylight, counted),
     }
 }

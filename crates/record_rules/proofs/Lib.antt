@@ -5,4 +5,3 @@ pub mod NextLaws
 pub mod UtcLaws
 pub mod FollowingLaws
 pub mod LastSixtyHolds
-pub mod Whole

@@ -6,6 +6,5 @@ pub mod Rule
 pub mod Next
 pub mod Utc
 pub mod Following
-pub mod Answers
 pub mod Literals
 pub mod AsPrinted

@@ -3,13 +3,12 @@
 #![tactic(auto)]
 
 pub mod season;
-pub mod utc;
 
 use calendar_rules::date::Date;
 use calendar_rules::time::Time;
 
 // The layouts with a date.
-#[derive(Clone, Copy)]
+#[derive(Clone, Copy, Debug, PartialEq, Eq)]
 pub enum DatedLayout {
     L6021,
     L2000,
@@ -18,14 +17,14 @@ pub enum DatedLayout {
 }
 
 // The layouts that carry the time of day alone: 6021t, 5500t and 5050t.
-#[derive(Clone, Copy)]
+#[derive(Clone, Copy, Debug, PartialEq, Eq)]
 pub enum TimeLayout {
     T6021,
     T5500,
     T5050,
 }
 
-#[derive(Clone, Copy)]
+#[derive(Clone, Copy, Debug, PartialEq, Eq)]
 pub enum Reception {
     Invalid,
     Crystal,
@@ -33,7 +32,7 @@ pub enum Reception {
     High,
 }
 
-#[derive(Clone, Copy)]
+#[derive(Clone, Copy, Debug, PartialEq, Eq)]
 pub struct Status {
     pub reception: Reception,
     pub daylight: bool,
@@ -41,15 +40,9 @@ pub struct Status {
     pub announced: bool,
 }
 
-#[derive(Clone, Copy)]
+#[derive(Clone, Copy, Debug, PartialEq, Eq)]
 pub enum Record {
     // Layout, status, weekday (1 Monday to 7 Sunday), date, time.
     Dated(DatedLayout, Status, u8, Date, Time),
     TimeOnly(TimeLayout, Time),
-}
-
-#[derive(Clone, Copy)]
-pub enum RecordAnswer {
-    Good(Record),
-    Refused(u8),
 }

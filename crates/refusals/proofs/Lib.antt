@@ -1,2 +1,4 @@
 pub mod Laws
+pub mod NumberLaws
 pub mod Tables
+pub mod NumbersAsPrintedHold

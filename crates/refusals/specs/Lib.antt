@@ -1,2 +1,4 @@
 pub mod Refusals
+pub mod Numbers
 pub mod Tables
+pub mod NumbersAsPrinted

@@ -1,69 +1,79 @@
-// The refusal numbers of documents 01 and 02. Every crate hands out these numbers and no others.
+// The refusals of documents 01 and 02. Every crate refuses with one of these and with nothing else.
 #![tactic(auto)]
 
 ghost use Rattle.std.specs.Prelude.{◌≡◌};
+ghost use Rattle.refusals.specs.Numbers.{number, number_if};
 ghost use Rattle.refusals.specs.Refusals.{lower};
 
-pub const NONE: u8 = 0;
+use std::error::Error;
+use std::fmt;
 
-pub const LENGTH: u8 = 1;
+// Why something was refused. Each refusal has the number that the documents give it.
+#[derive(Clone, Copy, Debug, PartialEq, Eq)]
+pub enum Refusal {
+    Length = 1,
+    Frame = 2,
+    FixedCharacter = 3,
+    Digit = 4,
+    StatusOrWeekday = 5,
+    OutOfRange = 6,
+    NoSuchDay = 7,
+    WeekdayDisagrees = 8,
+    StxInside = 9,
+    TooLong = 10,
+    EndedInside = 11,
+    OutsideCalendar = 12,
+    BufferShort = 13,
+    NoDate = 14,
+    StateIllFormed = 15,
+    NotOffered = 16,
+    DayOfYearDisagrees = 17,
+    NoRequest = 18,
+    NotWholeBlocks = 19,
+    BlockBad = 20,
+    NoFreeSlot = 21,
+    UnknownCommand = 22,
+    NoSuchTelegram = 27,
+}
 
-pub const FRAME: u8 = 2;
+impl Refusal {
+    // The documents' number.
+    pub fn number(self) -> u8
+        ensures { result ≡ number self }
+    {
+        self as u8
+    }
+}
 
-pub const FIXED_CHARACTER: u8 = 3;
+impl fmt::Display for Refusal {
+    fn fmt<W: fmt::Write>(&self, f: &mut fmt::Formatter<W>) -> fmt::Result {
+        write!(f, "refused with {}", self.number())
+    }
+}
 
-pub const DIGIT: u8 = 4;
+impl Error for Refusal {}
 
-pub const STATUS_OR_WEEKDAY: u8 = 5;
+// The lower of two refusals, where there are any.
+pub fn lowest(here: Option<Refusal>, before: Option<Refusal>) -> Option<Refusal>
+    ensures { number_if result ≡ lower (number_if here) (number_if before) }
+{
+    match (here, before) {
+        (None, _) => before,
+        (_, None) => here,
+        (Some(this), Some(other)) if this.number() < other.number() => here,
+        (Some(_), Some(_)) => before,
+    }
+}
 
-pub const OUT_OF_RANGE: u8 = 6;
-
-pub const NO_SUCH_DAY: u8 = 7;
-
-pub const WEEKDAY_DISAGREES: u8 = 8;
-
-pub const STX_INSIDE: u8 = 9;
-
-pub const TOO_LONG: u8 = 10;
-
-pub const ENDED_INSIDE: u8 = 11;
-
-pub const OUTSIDE_CALENDAR: u8 = 12;
-
-pub const BUFFER_SHORT: u8 = 13;
-
-pub const NO_DATE: u8 = 14;
-
-pub const STATE_ILL_FORMED: u8 = 15;
-
-pub const NOT_OFFERED: u8 = 16;
-
-pub const DAY_OF_YEAR_DISAGREES: u8 = 17;
-
-pub const NO_REQUEST: u8 = 18;
-
-pub const NOT_WHOLE_BLOCKS: u8 = 19;
-
-pub const BLOCK_BAD: u8 = 20;
-
-pub const NO_FREE_SLOT: u8 = 21;
-
-pub const UNKNOWN_COMMAND: u8 = 22;
-
-pub const NO_SUCH_TELEGRAM: u8 = 27;
-
-// The lower of two refusals, where 0 is none.
+// The lower of two numbers of refusals, where 0 is none.
 pub fn lower(here: u8, before: u8) -> u8
     ensures { result ≡ lower here before }
 {
-    if here == NONE {
+    if here == 0 {
         return before;
     }
-    if before == NONE {
+    if before == 0 {
         return here;
     }
-    if here < before {
-        return here;
-    }
-    before
+    here.min(before)
 }

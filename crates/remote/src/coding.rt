@@ -102,18 +102,10 @@ pub(crate) fn own_form(command: Command) -> Form
     match command {
         Command::Tim(_, _) => Form::Tim,
         Command::TimAsked(_) => Form::TimAsked,
-        Command::Dif(difference) => {
-            if is_minus(difference) {
-                return Form::DifMinus;
-            }
-            Form::DifPlus
-        }
+        Command::Dif(difference) if is_minus(difference) => Form::DifMinus,
+        Command::Dif(_) => Form::DifPlus,
         Command::DifAsked => Form::DifAsked,
-        Command::Pos(position) => {
-            let east_west = position.east_west;
-            let north_south = position.north_south;
-            by_hemispheres(east_west, north_south)
-        }
+        Command::Pos(position) => by_hemispheres(position.east_west, position.north_south),
         Command::PosAsked => Form::PosAsked,
     }
 }

@@ -2,52 +2,40 @@
 ghost use Rattle.std.specs.Prelude.{◌≡◌};
 ghost use Rattle.refusals.specs.Refusals.{unless};
 ghost use Rattle.remote_rules.specs.Reading.{carried, bytes_refusal, command_of};
-ghost use Rattle.remote_rules.specs.Answers.{command_answer};
+ghost use Rattle.refusals.specs.Numbers.{outcome};
 
+use super::Command;
 use super::coding::command_in;
-use super::rows::{form_of, rows, span_of};
-use super::rule::{is_spelled_well, refusal};
-use refusals::{FRAME, NONE, OUT_OF_RANGE};
-pub use remote_rules::read::CommandAnswer;
-use remote_rules::rows::{Form, FormAnswer};
+use super::rows::{form_of, row_of};
+use super::rule::{check, is_spelled_well};
+use refusals::Refusal;
+use remote_rules::rows::Form;
 use telegram::read::is_framed;
 
 // Bytes of a known form.
-fn read_as(form: Form, bytes: &[u8]) -> CommandAnswer
-    ensures { command_answer result ≡ unless (bytes_refusal form bytes.now) (carried form bytes.now) }
+fn read_as(form: Form, bytes: &[u8]) -> Result<Command, Refusal>
+    ensures { outcome result ≡ unless (bytes_refusal form bytes.now) (carried form bytes.now) }
 {
-    let rows = rows();
-    let span = span_of(form);
-    let start = span.start;
-    let end = span.end;
-    let found = places::scan(&rows[start..end], bytes);
-    let fault = found.fault;
-    if fault != NONE {
-        return CommandAnswer::Refused(fault);
+    let found = places::scan(row_of(form), bytes);
+    if let Some(fault) = found.fault {
+        return Err(fault);
     }
     let digits = found.digits;
     if !is_spelled_well(form, digits) {
-        return CommandAnswer::Refused(OUT_OF_RANGE);
+        return Err(Refusal::OutOfRange);
     }
     let command = command_in(form, digits);
-    let refused = refusal(command);
-    if refused != NONE {
-        return CommandAnswer::Refused(refused);
-    }
-    CommandAnswer::Good(command)
+    check(command)?;
+    Ok(command)
 }
 
 // Reads any bytes as one command, with control characters.
-pub fn read(bytes: &[u8]) -> CommandAnswer
-    ensures { command_answer result ≡ command_of bytes.now }
+pub fn read(bytes: &[u8]) -> Result<Command, Refusal>
+    ensures { outcome result ≡ command_of bytes.now }
 {
-    match form_of(bytes) {
-        FormAnswer::Refused(number) => CommandAnswer::Refused(number),
-        FormAnswer::Found(form) => {
-            if !is_framed(bytes) {
-                return CommandAnswer::Refused(FRAME);
-            }
-            read_as(form, bytes)
-        }
+    let form = form_of(bytes)?;
+    if !is_framed(bytes) {
+        return Err(Refusal::Frame);
     }
+    read_as(form, bytes)
 }

@@ -1,5 +1,7 @@
 // The rules for the fields of a command. Reading and writing both ask them.
-ghost use Rattle.std.specs.Prelude.{◌≡◌};
+ghost use Rattle.std.specs.Prelude.{◌≡◌, not};
+ghost use Rattle.refusals.specs.Refusals.{◌when◌};
+ghost use Rattle.refusals.specs.Numbers.{verdict};
 ghost use Rattle.remote_rules.specs.Rule.{moment_refusal, angle_in_range, position_in_range, refusal_of, spelled_well};
 
 use super::{Angle, Command, Moment, Position};
@@ -7,12 +9,12 @@ use layouts::coding::pair;
 use minutes::is_within_12_hours;
 use places::SLOTS;
 use record::{DatedLayout, Reception, Record, Status};
-use refusals::{NONE, OUT_OF_RANGE, lower};
+use refusals::{Refusal, lowest};
 use remote_rules::rows::Form;
 
 // What the rule for a 6021 says of a time, but that seconds end at 59.
-fn moment_refusal(moment: Moment) -> u8
-    ensures { result ≡ moment_refusal moment }
+fn check_moment(moment: Moment) -> Result<(), Refusal>
+    ensures { verdict result ≡ moment_refusal moment }
 {
     let status = Status {
         reception: Reception::Radio,
@@ -20,70 +22,53 @@ fn moment_refusal(moment: Moment) -> u8
         utc: false,
         announced: false,
     };
-    let time = moment.time;
-    let date = moment.date;
-    let refused = record::rule::refusal(Record::Dated(
+    let checked = record::rule::check(Record::Dated(
         DatedLayout::L6021,
         status,
         moment.weekday,
-        date,
-        time,
+        moment.date,
+        moment.time,
     ));
-    if 59 < time.second {
-        return lower(refused, OUT_OF_RANGE);
+    if moment.time.second <= 59 {
+        return checked;
     }
-    refused
+    // A 6021 may have a second 60, and a TIM may not: it is out of range, but a weekday is refused first.
+    lowest(checked.err(), Some(Refusal::OutOfRange)).map_or(Ok(()), Err)
 }
 
 // Below the end of the range, or at it with nothing behind.
 fn angle_in_range(top: u16, angle: Angle) -> bool
     ensures { result ≡ angle_in_range top angle }
 {
-    if angle.degrees < top {
-        if 59 < angle.minutes {
-            return false;
-        }
-        return angle.fraction <= 99;
-    }
-    if angle.degrees != top {
-        return false;
-    }
-    if angle.minutes != 0 {
-        return false;
-    }
-    angle.fraction == 0
+    (angle.degrees < top && angle.minutes <= 59 && angle.fraction <= 99)
+        || (angle.degrees == top && angle.minutes == 0 && angle.fraction == 0)
 }
 
 fn position_in_range(position: Position) -> bool
     ensures { result ≡ position_in_range position }
 {
-    if !angle_in_range(180, position.longitude) {
-        return false;
-    }
-    angle_in_range(90, position.latitude)
+    angle_in_range(180, position.longitude) && angle_in_range(90, position.latitude)
 }
 
-// What the rule says of a command: 5, 6, 7, 8, or no refusal. A status has no more than the 256 numbers of two hex digits.
-pub fn refusal(command: Command) -> u8
-    ensures { result ≡ refusal_of command }
+// Refuses what is out of range.
+fn check_range(in_range: bool) -> Result<(), Refusal>
+    ensures { verdict result ≡ (6 when not in_range) }
+{
+    if in_range {
+        return Ok(());
+    }
+    Err(Refusal::OutOfRange)
+}
+
+// Refuses a command by its rule, with 5, 6, 7 or 8. A status has no more than the 256 numbers of two hex digits.
+pub fn check(command: Command) -> Result<(), Refusal>
+    ensures { verdict result ≡ refusal_of command }
 {
     match command {
-        Command::Tim(_, moment) => moment_refusal(moment),
-        Command::TimAsked(_) => NONE,
-        Command::Dif(difference) => {
-            if is_within_12_hours(difference) {
-                return NONE;
-            }
-            OUT_OF_RANGE
-        }
-        Command::DifAsked => NONE,
-        Command::Pos(position) => {
-            if position_in_range(position) {
-                return NONE;
-            }
-            OUT_OF_RANGE
-        }
-        Command::PosAsked => NONE,
+        Command::Tim(_, moment) => check_moment(moment),
+        Command::Dif(difference) => check_range(is_within_12_hours(difference)),
+        Command::Pos(position) => check_range(position_in_range(position)),
+        Command::TimAsked(_) | Command::DifAsked | Command::PosAsked => Ok(()),
     }
 }
 
@@ -95,22 +80,7 @@ pub(crate) fn is_spelled_well(form: Form, digits: [u8; SLOTS]) -> bool
     let minutes = pair(digits[4], digits[5]);
     match form {
         Form::DifPlus => minutes <= 59,
-        Form::DifMinus => {
-            if 59 < minutes {
-                return false;
-            }
-            if 0 < hours {
-                return true;
-            }
-            0 < minutes
-        }
-        Form::Tim => true,
-        Form::TimAsked => true,
-        Form::DifAsked => true,
-        Form::PosWestNorth => true,
-        Form::PosWestSouth => true,
-        Form::PosEastNorth => true,
-        Form::PosEastSouth => true,
-        Form::PosAsked => true,
+        Form::DifMinus => minutes <= 59 && (0 < hours || 0 < minutes),
+        _ => true,
     }
 }

@@ -1,33 +1,25 @@
 // Writing a command into a lent buffer.
 ghost use Rattle.std.specs.Prelude.{◌≡◌};
 ghost use Rattle.lent_buffer.specs.Laying.{laid};
-ghost use Rattle.telegram_rules.specs.Answers.{write_answer};
+ghost use Rattle.refusals.specs.Numbers.{outcome};
 ghost use Rattle.remote_rules.specs.Writing.{telegram_for};
 
 use super::Command;
 use super::coding::{digits_out, own_form};
-use super::rows::{rows, span_of};
-use super::rule::refusal;
-use refusals::{BUFFER_SHORT, NONE};
-pub use telegram_rules::write::WriteAnswer;
+use super::rows::row_of;
+use super::rule::check;
+use refusals::Refusal;
 
 // Writes a command at the front of the buffer. A refused write leaves every byte of it as it was.
-pub fn write(command: Command, out: &mut [u8]) -> WriteAnswer
-    ensures { laid (telegram_for command) out.old ≡ (write_answer result, out.new) }
+pub fn write(command: Command, out: &mut [u8]) -> Result<usize, Refusal>
+    ensures { laid (telegram_for command) out.old ≡ (outcome result, out.new) }
 {
-    let refused = refusal(command);
-    if refused != NONE {
-        return WriteAnswer::Refused(refused);
-    }
-    let span = span_of(own_form(command));
-    let start = span.start;
-    let end = span.end;
-    let length = end - start;
+    check(command)?;
+    let row = row_of(own_form(command));
+    let length = row.len();
     if out.len() < length {
-        return WriteAnswer::Refused(BUFFER_SHORT);
+        return Err(Refusal::BufferShort);
     }
-    let digits = digits_out(command);
-    let rows = rows();
-    places::render(&rows[start..end], &digits, out);
-    WriteAnswer::Written(length)
+    places::render(row, &digits_out(command), out);
+    Ok(length)
 }

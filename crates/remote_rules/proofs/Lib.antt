@@ -4,10 +4,8 @@ pub mod RuleLaws
 pub mod Carried
 pub mod BackAndForth
 pub mod MomentLaws
-pub mod SpanLaws
 pub mod ReadLaws
 pub mod WriteLaws
 pub mod AsPrintedHolds
 pub mod Spelled
 pub mod NamesHold
-pub mod Whole

@@ -67,7 +67,7 @@ module _ (a b c : ℕ) where
       go false e = refl
 
 -- Behind the form no number is 1, and none is above 8.
-abbrev Later : ℕ → Type 0
+abbrev pub Later : ℕ → Type 0
 Later n = (n ≤ 8) × (n ≡ 1 → ⊥)
 
 when_later : (n : ℕ) (holds : Bool) → n ≤ 6 → Later (suc (suc n) when holds)
@@ -101,10 +101,10 @@ command_later command.DifAsked = none_later
 command_later (command.Pos position) = when_later 4 (not (position_in_range position)) (omega arith)
 command_later command.PosAsked = none_later
 
-abbrev number_of : List ℕ → Form → ℕ
+abbrev pub number_of : List ℕ → Form → ℕ
 number_of bytes form = 2 when not (framed bytes) else bytes_refusal form bytes
 
-bytes_later : (bytes : List ℕ) (form : Form) → Later (number_of bytes form)
+pub bytes_later : (bytes : List ℕ) (form : Form) → Later (number_of bytes form)
 unfolding bytes_refusal
 bytes_later bytes form =
     let row = row_of form in

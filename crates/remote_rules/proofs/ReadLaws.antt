@@ -2,32 +2,30 @@
 use mathlib.Core.Path.{◌≡◌, ap, sym, ◌∙◌}
 use mathlib.Core.Bool.{true, false}
 use mathlib.Core.List.{List, map}
-use Prim.Native.Nat.{ℕ, ◌-◌}
-use lib.ListN.{take, drop}
+use Prim.Native.Nat.{ℕ}
 use Rattle.refusals.specs.Refusals.{Outcome, done, refused, unless}
 use Rattle.refusals.proofs.Laws.{refuses, refuses_first, does}
 use Rattle.places_rules.specs.Places.{place, row_fault, found_in}
-use Rattle.places_rules.specs.declared.Found.{Found}
-use Rattle.layouts_rules.specs.declared.rows.Span.{Span}
+use Rattle.places_rules.specs.Places.{Finding}
 use Rattle.telegram_rules.specs.Reading.{framed}
 use Rattle.remote_rules.specs.declared.Command.{Command}
 use Rattle.remote_rules.specs.declared.rows.Form.{Form}
-use Rattle.remote_rules.specs.Rows.{row_of, all_rows, span_of, form_of}
+use Rattle.remote_rules.specs.Rows.{row_of, row_numbers, form_of}
 use Rattle.remote_rules.specs.Coding.{command_in}
 use Rattle.remote_rules.specs.Rule.{refusal_of, spelled_well}
 use Rattle.remote_rules.specs.Reading.{digits_in, carried, bytes_refusal, command_of}
-use Rattle.remote_rules.proofs.SpanLaws.{span_row}
+use Rattle.remote_rules.proofs.RowLaws.{row_kept}
 
--- what a scan by the kept rows finds is what the form's row says
-pub seen : (found : Found) (form : Form) (span : Span) (rows bytes : List ℕ) → span ≡ span_of form → rows ≡ all_rows
-    → found ≡ found_in (map place (take (span.end - span.start) (drop span.start rows))) bytes → found ≡ found_in (row_of form) bytes
-seen found form span rows bytes marks kept e = e ∙ ap (λ r. found_in r bytes) (span_row form span marks rows kept)
+-- what a scan by the kept row finds is what the form's row says
+pub seen : (found : Finding) (form : Form) (row bytes : List ℕ) → row ≡ row_numbers form → found ≡ found_in (map place row) bytes
+    → found ≡ found_in (row_of form) bytes
+seen found form row bytes kept e = e ∙ ap (λ r. found_in r bytes) (row_kept form row kept)
 
 -- bytes of a known form
 abbrev pub read_as : Form → List ℕ → Outcome Command
 read_as form bytes = unless (bytes_refusal form bytes) (carried form bytes)
 
-module _ (found : Found) (form : Form) (bytes : List ℕ) (e : found ≡ found_in (row_of form) bytes) where
+module _ (found : Finding) (form : Form) (bytes : List ℕ) (e : found ≡ found_in (row_of form) bytes) where
   fault_is : found.fault ≡ row_fault (row_of form) bytes
   unfolding found_in
   fault_is = ap (λ f. f.fault) e

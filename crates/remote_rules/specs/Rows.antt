@@ -1,11 +1,10 @@
 -- Source document 003, section 7: the rows of places of TIM, DIF and POS, and how a command's row is found.
-use Rattle.std.specs.Prelude.{Bool, cond, ◌&&◌, List, [], ◌∷◌, ◌++◌, map, ℕ, ◌+◌, eqb, length, get_or}
+use Rattle.std.specs.Prelude.{Bool, cond, ◌&&◌, List, [], ◌∷◌, ◌++◌, map, ℕ, eqb, length, get_or}
 use Prim.Native.String.{String}
 use Rattle.refusals.specs.Refusals.{Outcome, done, refused}
 use Rattle.ascii.specs.Ascii.{ascii}
 use Rattle.ascii.specs.Control.{stx, etx}
 use Rattle.places_rules.specs.Places.{Place, fixed, decimal, code, place_number}
-use Rattle.layouts_rules.specs.declared.rows.Span.{Span}
 use Rattle.layouts_rules.specs.Layouts.{weekday, hh, mm, ss, dd, mo, yy, CR, LF}
 use Rattle.remote_rules.specs.declared.EastWest.{EastWest}
 use Rattle.remote_rules.specs.declared.EastWest.TheVariants.{West, East}
@@ -93,36 +92,9 @@ inner_row form = letters (name_of form) ++ fixed colon ∷ field_of form ++ CR �
 unfoldable pub row_of : Form → List Place
 row_of form = fixed stx ∷ inner_row form ++ fixed etx ∷ []
 
--- the rows as the code keeps them: one number a place, one row behind another
-unfoldable pub all_rows : List ℕ
-all_rows =
-    map place_number
-    (row_of Tim
-    ++ row_of TimAsked
-    ++ row_of DifPlus
-    ++ row_of DifMinus
-    ++ row_of DifAsked
-    ++ row_of PosWestNorth
-    ++ row_of PosWestSouth
-    ++ row_of PosEastNorth
-    ++ row_of PosEastSouth
-    ++ row_of PosAsked)
-
--- where each begins
-abbrev pub row_start : Form → ℕ
-row_start Tim = 0
-row_start TimAsked = 30
-row_start DifPlus = 40
-row_start DifMinus = 54
-row_start DifAsked = 68
-row_start PosWestNorth = 76
-row_start PosWestSouth = 106
-row_start PosEastNorth = 136
-row_start PosEastSouth = 166
-row_start PosAsked = 196
-
-unfoldable pub span_of : Form → Span
-span_of form = record { start = row_start form; end = row_start form + length (row_of form) }
+-- a row as the code keeps it: one number a place
+unfoldable pub row_numbers : Form → List ℕ
+row_numbers form = map place_number (row_of form)
 
 -- "a framed telegram whose fifth character, STX included, is a colon is a remote command"
 abbrev pub is_command : List ℕ → Bool

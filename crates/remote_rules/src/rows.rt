@@ -1,7 +1,7 @@
 // The forms that a command can have on the line: a row of places each.
 
 // A sign or a hemisphere is a fixed character of one of several rows.
-#[derive(Clone, Copy)]
+#[derive(Clone, Copy, Debug, PartialEq, Eq)]
 pub enum Form {
     Tim,
     TimAsked,
@@ -13,10 +13,4 @@ pub enum Form {
     PosEastNorth,
     PosEastSouth,
     PosAsked,
-}
-
-#[derive(Clone, Copy)]
-pub enum FormAnswer {
-    Found(Form),
-    Refused(u8),
 }

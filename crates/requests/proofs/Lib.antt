@@ -1,4 +1,3 @@
 pub mod AsPrintedHolds
 pub mod ReadLaws
 pub mod ExactlyHolds
-pub mod Whole

@@ -1,14 +1,17 @@
 -- The ways in which the reading of a request ends, over the definitions. Assumes nothing.
 use mathlib.Core.Path.{◌≡◌, refl, ap, sym, subst}
-use mathlib.Core.Bool.{and-false}
+use mathlib.Core.Bool.{true, false, and-false}
+use Rattle.std.specs.Option.{is_some}
 use mathlib.Core.List.{List, [], ◌∷◌, map}
 use Prim.Native.Nat.{ℕ, ◌≤◌, ◌<◌}
 use native.Mathlib.Omega.{arith}
 use lib.ListN.{length, get_or, length-map}
 use borrow.Author.Tests.{eq-eqb, ne_eqb}
 use Rattle.refusals.specs.Refusals.{Outcome, done}
-use Rattle.places_rules.specs.Places.{place, place_number, row_fault, found_in}
+use Rattle.refusals.specs.Numbers.{number_if}
+use Rattle.refusals.proofs.NumberLaws.{number_if_some, number_if_none}
 use Rattle.places_rules.specs.declared.Found.{Found}
+use Rattle.places_rules.specs.Places.{place, place_number, row_fault, gather, no_digits, finding, found_in}
 use Rattle.requests.specs.declared.Asked.{Asked}
 use Rattle.requests.specs.declared.Asked.TheVariants.{Time, TimeAndDate, UtcTimeAndDate}
 use Rattle.requests.specs.declared.Request.{Request}
@@ -19,18 +22,20 @@ module _ (asked : Asked) (row bytes : List ℕ) where
   pub other_length : (length bytes ≡ length row → ⊥) → no_request ≡ request_in ((asked, map place row) ∷ []) bytes
   other_length other = rw (length-map row place, ne_eqb _ _ other, and-false)
 
-  module _ (found : Found) (seen : found ≡ found_in (map place row) bytes) where
-    fault_is : found.fault ≡ row_fault (map place row) bytes
+  module _ (found : Found) (seen : finding found ≡ found_in (map place row) bytes) where
+    fault_is : number_if found.fault ≡ row_fault (map place row) bytes
     unfolding found_in
     fault_is = ap (λ f. f.fault) seen
 
-    pub misfit : (found.fault ≡ 0 → ⊥) → no_request ≡ request_in ((asked, map place row) ∷ []) bytes
-    misfit some = rw (← fault_is, ne_eqb _ _ some)
+    pub misfit : is_some found.fault ≡ true → no_request ≡ request_in ((asked, map place row) ∷ []) bytes
+    misfit some = rw (← fault_is, ne_eqb _ _ (number_if_some found.fault some))
 
-    pub fitting : length bytes ≡ length row → found.fault ≡ 0
+    pub fitting : length bytes ≡ length row → is_some found.fault ≡ false
         → done (request asked (delay_of found.digits)) ≡ request_in ((asked, map place row) ∷ []) bytes
     unfolding found_in
-    fitting same none = rw (length-map row place, eq-eqb _ _ same, ← fault_is, none, seen)
+    fitting same none =
+        let digits : found.digits ≡ gather (map place row) bytes no_digits = ap (λ f. f.digits) seen in
+        rw (length-map row place, eq-eqb _ _ same, ← fault_is, number_if_none found.fault none, digits)
 
 -- By the first letter: of the six rows, no other fits.
 module _ (asked : Asked) (bytes : List ℕ) where

@@ -4,30 +4,24 @@
 ghost use Rattle.std.specs.Prelude.{◌≡◌, [], ◌∷◌, map};
 ghost use Rattle.places_rules.specs.Places.{place};
 ghost use Rattle.requests.specs.Requests.{delay_for, request_in, request_of};
-ghost use Rattle.requests.specs.Answers.{request_answer};
+ghost use Rattle.refusals.specs.Numbers.{outcome};
 
 use places::FIRST_CODE;
-use refusals::{NO_REQUEST, NONE};
+use refusals::Refusal;
 
 // What is asked for.
-#[derive(Clone, Copy)]
+#[derive(Clone, Copy, Debug, PartialEq, Eq)]
 pub enum Asked {
     Time,
     TimeAndDate,
     UtcTimeAndDate,
 }
 
-#[derive(Clone, Copy)]
+#[derive(Clone, Copy, Debug, PartialEq, Eq)]
 pub struct Request {
     pub asked: Asked,
     // How long the answer waits, in milliseconds.
     pub delay_ms: u16,
-}
-
-#[derive(Clone, Copy)]
-pub enum RequestAnswer {
-    Good(Request),
-    Refused(u8),
 }
 
 // The places of the count's two digits.
@@ -43,29 +37,29 @@ fn delay(high: u8, low: u8) -> u16
 }
 
 // Bytes that must fit a row: as many as it has places, each right for its place.
-fn by_row(asked: Asked, row: &[u8], bytes: &[u8]) -> RequestAnswer
-    ensures { request_answer result ≡ request_in ((asked, map place row.now) ∷ []) bytes.now }
+fn by_row(asked: Asked, row: &[u8], bytes: &[u8]) -> Result<Request, Refusal>
+    ensures { outcome result ≡ request_in ((asked, map place row.now) ∷ []) bytes.now }
 {
     if bytes.len() != row.len() {
-        return RequestAnswer::Refused(NO_REQUEST);
+        return Err(Refusal::NoRequest);
     }
     let found = places::scan(row, bytes);
-    if found.fault != NONE {
-        return RequestAnswer::Refused(NO_REQUEST);
+    if found.fault.is_some() {
+        return Err(Refusal::NoRequest);
     }
     let digits = found.digits;
-    RequestAnswer::Good(Request {
+    Ok(Request {
         asked,
         delay_ms: delay(digits[0], digits[1]),
     })
 }
 
 // Reads a request: any bytes. A capital letter stands alone, and a small one in front of two digits.
-pub fn read(bytes: &[u8]) -> RequestAnswer
-    ensures { request_answer result ≡ request_of bytes.now }
+pub fn read(bytes: &[u8]) -> Result<Request, Refusal>
+    ensures { outcome result ≡ request_of bytes.now }
 {
-    if bytes.len() < 1 {
-        return RequestAnswer::Refused(NO_REQUEST);
+    if bytes.is_empty() {
+        return Err(Refusal::NoRequest);
     }
     let letter = bytes[0];
     let alone = [letter];
@@ -77,6 +71,6 @@ pub fn read(bytes: &[u8]) -> RequestAnswer
         b'u' => by_row(Asked::Time, &delayed, bytes),
         b'd' => by_row(Asked::TimeAndDate, &delayed, bytes),
         b'g' => by_row(Asked::UtcTimeAndDate, &delayed, bytes),
-        _ => RequestAnswer::Refused(NO_REQUEST),
+        _ => Err(Refusal::NoRequest),
     }
 }

@@ -11,7 +11,7 @@ use Rattle.refusals.specs.Refusals.{refused}
 use Rattle.refusals.proofs.Laws.{both}
 use Rattle.ascii.specs.Control.{stx, etx}
 use Rattle.trailer_rules.specs.declared.Order.{Order}
-use Rattle.line_rules.specs.declared.Heard.{Heard}
+use Rattle.line_rules.specs.Hearing.{Heard}
 use Rattle.line_rules.specs.Line.{Line, line_with, Told, nothing, event, judgement, held_after_at, told_by_at, stray_by, step_at, start_of, Feeding, stop_or, feed_at, heard_for}
 use Rattle.line_rules.specs.Events.{tells, events_at, line_after_at}
 use Rattle.takeover.specs.Sentences.{is_ten, no_ten}

@@ -1,3 +1,4 @@
 pub mod TakingOverLaws
 pub mod BoundLaws
 pub mod SentencesHold
+pub mod Whole

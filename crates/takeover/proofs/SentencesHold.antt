@@ -8,8 +8,7 @@ use lib.ListN.{length, replicate, length-append, length-take, length-replicate, 
 use borrow.Author.Tests.{leb-true, not-true}
 use Rattle.refusals.proofs.Laws.{both}
 use Rattle.line.specs.declared.Reader.{Reader}
-use Rattle.line_rules.specs.declared.Heard.{Heard}
-use Rattle.line_rules.specs.declared.Heard.TheVariants.{Nothing, Event, Refused}
+use Rattle.line_rules.specs.Hearing.{Heard, Nothing, Event, Refused}
 use Rattle.line.specs.Readers.{reader_with, fed_at, reader_at, line_of, well_formed_at, well_formed, feed_reader_at, feed_reader, end_reader_at, end_reader}
 use Rattle.line_rules.specs.Line.{places, Line, start_of, ended, told_by_end, feed_at, heard_for, is_started, fresh_line}
 use Rattle.line_rules.specs.Events.{events_at, line_after_at, heard_then}

@@ -1,19 +1,16 @@
 -- Document 02, g: what is taken over, and how the reader that it was kept by would have gone on. That reader is the one of document 01,
 -- "The line, byte by byte", with the old bound: the definitions of `line` at `kept_places`.
 use Rattle.std.specs.Prelude.{Bool, true, false, cond, not, ◌&&◌, List, [], ◌∷◌, ◌≡◌, ℕ, ◌<◌, eqb, take}
-use Rattle.record_rules.specs.declared.RecordAnswer.TheVariants as answer
 use Rattle.line.specs.declared.Reader.{Reader}
-use Rattle.line_rules.specs.declared.Heard.{Heard}
-use Rattle.line_rules.specs.declared.Heard.TheVariants.{Nothing, Event, Refused}
-use Rattle.line.specs.declared.Fed.{Fed}
-use Rattle.line.specs.declared.Ended.{Ended}
+use Rattle.line_rules.specs.Hearing.{Heard, Nothing, Event, Refused}
+use Rattle.line.specs.Readers.{Ended, Fed, line_of, reader_at, fresh_in, well_formed_at, well_formed, AsDeclared, feed_reader_at, feed_reader, end_reader_at, end_reader}
 use Rattle.trailer_rules.specs.declared.Order.{Order}
-use Rattle.line.specs.Readers.{line_of, reader_at, fresh_in, well_formed_at, well_formed, AsDeclared, feed_reader_at, feed_reader, end_reader_at, end_reader}
 use Rattle.line_rules.specs.Line.{Line, fresh_line}
 use Rattle.line_rules.specs.Events.{events_at, line_after_at, events_of, line_after}
 use Rattle.line.specs.Cuts.{feeding, Served, heard_of, reader_behind, heard_from, reader_after}
 use Rattle.takeover.specs.declared.Kept.{Kept}
 use Rattle.takeover.specs.TakingOver.{kept_places, state_of, was_well_formed, AsKept, with_more_places, take_over}
+use Rattle.refusals.specs.Refusals.{done, refused}
 
 -- the reader that stands for a kept state, and the line that the state meant
 abbrev pub reader_for : Kept → Reader
@@ -66,8 +63,8 @@ WhatIsTakenOverIsWellFormed =
 -- whether an event is a 10, and whether one of them is
 abbrev pub is_ten : Heard → Bool
 is_ten Nothing = false
-is_ten (Event (answer.Good rec) start size) = false
-is_ten (Event (answer.Refused number) start size) = eqb number 10
+is_ten (Event (done rec) start size) = false
+is_ten (Event (refused number) start size) = eqb number 10
 is_ten (Refused number) = false
 
 abbrev pub no_ten : List Heard → Bool

@@ -4,7 +4,8 @@ use Rattle.line.specs.declared.Reader.{Reader}
 use Rattle.line.specs.Readers.{reader_with, fresh_in, well_formed_at}
 use Rattle.line_rules.specs.Line.{places}
 use Rattle.takeover.specs.declared.Kept.{Kept}
-use Rattle.takeover.specs.declared.TakenOver.{TakenOver}
+use Rattle.takeover.specs.declared.TakenOver as code
+use Rattle.refusals.specs.Numbers.{number_if}
 
 -- the bound that the state was kept at
 abbrev pub kept_places : ℕ
@@ -28,6 +29,15 @@ with_more_places state =
     reader_with (state.held ++ replicate (places - kept_places) 0) state.len state.fed state.stray state.start state.order
 
 -- the step's answer: the reader, the state as it was handed in, and the number, 0 for none
+pub record TakenOver : Type 0 where
+  pub reader : Reader
+  pub kept : Kept
+  pub refusal : ℕ
+
+-- what the code hands out
+abbrev pub taken_as : code.TakenOver → TakenOver
+taken_as taken = record { reader = taken.reader; kept = taken.kept; refusal = number_if taken.refusal }
+
 abbrev pub taken_over : Kept → TakenOver
 taken_over kept = record { reader = with_more_places (state_of kept); kept = kept; refusal = 0 }
 

@@ -2,17 +2,17 @@
 #![tactic(auto)]
 
 ghost use Rattle.std.specs.Prelude.{◌≡◌};
-ghost use Rattle.takeover.specs.TakingOver.{state_of, with_more_places, refused_for, take_over};
+ghost use Rattle.takeover.specs.TakingOver.{state_of, with_more_places, refused_for, take_over, taken_as};
 
 use line::{PLACES, Reader};
-use refusals::{NONE, STATE_ILL_FORMED};
+use refusals::Refusal;
 use trailer::Order;
 
 // How many bytes that reader held at most.
 pub const KEPT_PLACES: usize = 24;
 
 // Its state, with the fields that a reader has.
-#[derive(Clone, Copy)]
+#[derive(Clone, Copy, Debug, PartialEq, Eq)]
 pub struct Kept {
     pub held: [u8; KEPT_PLACES],
     pub len: usize,
@@ -22,53 +22,46 @@ pub struct Kept {
     pub order: Order,
 }
 
-#[derive(Clone, Copy)]
+#[derive(Clone, Copy, Debug, PartialEq, Eq)]
 pub struct TakenOver {
     // What goes on with the line; a fresh reader of the same order where the state is refused.
     pub reader: Reader,
     // The state as it was handed in.
     pub kept: Kept,
-    // 15 for a state that is not well formed by its own bound, else 0.
-    pub refusal: u8,
+    // Where the state is not well formed by its own bound.
+    pub refusal: Option<Refusal>,
 }
 
 // The same state with the places of a reader: zeros in those that it did not have.
 fn with_more_places(kept: Kept) -> Reader
     ensures { result ≡ with_more_places (state_of kept) }
 {
-    let before = kept.held;
-    let order = kept.order;
     let mut held = [0u8; PLACES];
-    let mut at: usize = 0;
-    while at < KEPT_PLACES {
-        held[at] = before[at];
-        at += 1;
-    }
+    held[..KEPT_PLACES].copy_from_slice(&kept.held);
     Reader {
-        held: held,
+        held,
         len: kept.len,
         fed: kept.fed,
         stray: kept.stray,
         start: kept.start,
-        order: order,
+        order: kept.order,
     }
 }
 
 // A state that is not well formed: nothing of it but its order goes on.
 fn refused(kept: Kept) -> TakenOver
-    ensures { result ≡ refused_for kept }
+    ensures { taken_as result ≡ refused_for kept }
 {
-    let order = kept.order;
     TakenOver {
-        reader: Reader::fresh_in(order),
-        kept: kept,
-        refusal: STATE_ILL_FORMED,
+        reader: Reader::fresh_in(kept.order),
+        kept,
+        refusal: Some(Refusal::StateIllFormed),
     }
 }
 
 // Takes a kept state over. Where no more bytes are held than it has places, it is as well formed as the reader.
 pub fn take_over(kept: Kept) -> TakenOver
-    ensures { result ≡ take_over kept }
+    ensures { taken_as result ≡ take_over kept }
 {
     if KEPT_PLACES < kept.len {
         return refused(kept);
@@ -78,8 +71,8 @@ pub fn take_over(kept: Kept) -> TakenOver
         return refused(kept);
     }
     TakenOver {
-        reader: reader,
-        kept: kept,
-        refusal: NONE,
+        reader,
+        kept,
+        refusal: None,
     }
 }

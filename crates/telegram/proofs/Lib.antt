@@ -1,1 +1,2 @@
 pub mod SeveralLaws
+pub mod Whole

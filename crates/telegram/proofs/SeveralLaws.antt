@@ -2,8 +2,7 @@
 use Rattle.std.proofs.Common.{◌≡◌, ℕ, ◌+◌, ◌-◌, ◌%◌, ◌^◌, ◌<◌, min, List, [], ◌∷◌, ◌++◌, length, take, drop, sym, refl, ap, ◌∙◌, ap₂, append-nil, add-zero, arith, length-append, length-drop}
 use borrow.Rule.Slice.PartMut.{put_mid}
 use Rattle.refusals.specs.Refusals.{Outcome, done, refused}
-use Rattle.lent_buffer.specs.declared.Ending.{Ending}
-use Rattle.lent_buffer.specs.declared.Ending.TheVariants.{Whole, Refused}
+use Rattle.lent_buffer.specs.Endings.{Ending, Whole, Refused}
 use Rattle.lent_buffer.specs.Laying.{within, laid_in, laid}
 use Rattle.lent_buffer.specs.OneBehindAnother.{Standing, joined, part_then, one_behind_another}
 use Rattle.lent_buffer.proofs.LayingLaws.{stands, stops}
@@ -11,7 +10,7 @@ use Rattle.lent_buffer.proofs.TailLaws.{tail_lent, tail_back}
 use Rattle.lent_buffer.proofs.OneBehindAnotherLaws.{no_part, first_part, Laying, Ended, none_yet_law, no_more_law, part_stops, part_stands}
 use Rattle.record_rules.specs.declared.Record.{Record}
 use Rattle.telegram_rules.specs.declared.write.Choice.{Choice}
-use Rattle.telegram.specs.declared.several.Several.{Several}
+use Rattle.telegram.specs.SeveralTelegrams.{Several}
 use Rattle.telegram.specs.SeveralTelegrams.{none_yet, with_more, unless_ended, several_after, several_all}
 use Rattle.telegram_rules.specs.Writing.{telegram_for, next_telegram, telegrams_in}
 

@@ -1,14 +1,23 @@
 -- Document 01, "Refusal numbers": "telegrams written one behind another each go into the room after the last", call by call.
 use Rattle.std.specs.Prelude.{ℕ, ◌+◌, ◌-◌, ◌%◌, ◌^◌, List, [], ◌∷◌, ◌++◌, length, take, drop}
 use Rattle.refusals.specs.Refusals.{done}
-use Rattle.lent_buffer.specs.declared.Ending.{Ending}
-use Rattle.lent_buffer.specs.declared.Ending.TheVariants.{Whole, Refused}
+use Rattle.lent_buffer.specs.Endings.{Ending, Whole, Refused, ending_numbered}
 use Rattle.lent_buffer.specs.Laying.{laid_in}
 use Rattle.lent_buffer.specs.OneBehindAnother.{Standing, joined}
 use Rattle.record_rules.specs.declared.Record.{Record}
 use Rattle.telegram_rules.specs.declared.write.Choice.{Choice}
-use Rattle.telegram.specs.declared.several.Several.{Several}
+use Rattle.telegram.specs.declared.several.Several as code
 use Rattle.telegram_rules.specs.Writing.{telegrams_in}
+
+-- how several stand: how many, how many bytes they take, and how it ended
+pub record Several : Type 0 where
+  pub count : ℕ
+  pub used : ℕ
+  pub ending : Ending
+
+-- what the code hands out
+abbrev pub several_as : code.Several → Several
+several_as several = record { count = several.count; used = several.used; ending = ending_numbered several.ending }
 
 -- nothing written yet
 abbrev pub none_yet : Several

@@ -5,6 +5,5 @@ pub mod BackAndForth
 pub mod InOrder
 pub mod ExchangeLaws
 pub mod ReadsBack
-pub mod Whole
 pub mod AsPrintedHolds
 pub mod OrderAsPrintedHolds

@@ -8,21 +8,20 @@ use lib.ListN.{length, take, drop}
 use Rattle.refusals.specs.Refusals.{◌else◌, done, refused, unless}
 use Rattle.refusals.proofs.Laws.{refuses, refuses_first, does}
 use Rattle.places_rules.specs.Places.{place, row_fault, found_in}
-use Rattle.places_rules.specs.declared.Found.{Found}
+use Rattle.places_rules.specs.Places.{Finding}
 use Rattle.record_rules.specs.Rule.{refusal_of}
 use Rattle.layouts_rules.specs.declared.Layout.{Layout}
-use Rattle.layouts_rules.specs.declared.rows.Span.{Span}
-use Rattle.layouts_rules.specs.Layouts.{places_of, all_rows, span_of, layout_of}
+use Rattle.layouts_rules.specs.Layouts.{places_of, row_numbers, layout_of}
 use Rattle.layouts_rules.specs.Coding.{record_in}
-use Rattle.layouts_rules.proofs.RowLaws.{span_row}
+use Rattle.layouts_rules.proofs.RowLaws.{row_kept}
 use Rattle.telegram_rules.specs.Reading.{body_of, framed, carried, body_refusal, read_body_as, read_in, read_of}
 
--- what a scan by the kept rows finds is what the table's row says
-pub seen : (found : Found) (layout : Layout) (span : Span) (rows body : List ℕ) → span ≡ span_of layout → rows ≡ all_rows
-    → found ≡ found_in (map place (take (span.end - span.start) (drop span.start rows))) body → found ≡ found_in (places_of layout) body
-seen found layout span rows body marks kept e = e ∙ ap (λ r. found_in r body) (span_row layout span marks rows kept)
+-- what a scan by the kept row finds is what the table's row says
+pub seen : (found : Finding) (layout : Layout) (row body : List ℕ) → row ≡ row_numbers layout → found ≡ found_in (map place row) body
+    → found ≡ found_in (places_of layout) body
+seen found layout row body kept e = e ∙ ap (λ r. found_in r body) (row_kept layout row kept)
 
-module _ (found : Found) (layout : Layout) (body : List ℕ) (e : found ≡ found_in (places_of layout) body) where
+module _ (found : Finding) (layout : Layout) (body : List ℕ) (e : found ≡ found_in (places_of layout) body) where
   fault_is : found.fault ≡ row_fault (places_of layout) body
   unfolding found_in
   fault_is = ap (λ f. f.fault) e

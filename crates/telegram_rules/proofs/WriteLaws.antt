@@ -12,10 +12,9 @@ use Rattle.refusals.specs.Refusals.{Outcome, done, refused, after}
 use Rattle.places_rules.specs.Places.{place, render, over}
 use Rattle.places_rules.proofs.Rendering.{length_render}
 use Rattle.record_rules.specs.declared.Record.{Record}
-use Rattle.layouts_rules.specs.declared.rows.Span.{Span}
-use Rattle.layouts_rules.specs.Layouts.{places_of, all_rows, span_of, own_layout}
+use Rattle.layouts_rules.specs.Layouts.{places_of, row_numbers, own_layout}
 use Rattle.layouts_rules.specs.Coding.{digits_out}
-use Rattle.layouts_rules.proofs.RowLaws.{span_row, span_ends, row_length}
+use Rattle.layouts_rules.proofs.RowLaws.{row_kept, row_size, row_length}
 use Rattle.trailer_rules.specs.declared.Order.{Order}
 use Rattle.telegram_rules.specs.Writing.{body_bytes, telegram_in, telegram_of, record_to_write, control_of, order_of, telegram_for}
 use Rattle.telegram_rules.specs.declared.write.Choice.{Choice}
@@ -27,19 +26,18 @@ length_body rec = length_render (places_of (own_layout rec)) (digits_out rec)
 pub length_framed : (rec : Record) → length (telegram_of true rec) ≡ length (body_bytes rec) + 2
 length_framed rec = omega (arith, length-append (body_bytes rec) (3 ∷ []))
 
--- what the code's rows and digits make of a buffer
-module _ (rec : Record) (span : Span) (marks : span ≡ span_of (own_layout rec)) where
-  pub span_size : span.end - span.start ≡ length (body_bytes rec)
-  span_size = omega (arith, span_ends (own_layout rec) span marks, length_body rec)
+-- what the code's row and digits make of a buffer
+module _ (rec : Record) (row : List ℕ) (kept : row ≡ row_numbers (own_layout rec)) where
+  pub row_bytes : length row ≡ length (body_bytes rec)
+  row_bytes = row_size (own_layout rec) row kept ∙ sym (length_body rec)
 
-  pub span_small : span.end - span.start ≤ 23
-  span_small = omega (arith, span_size, length_body rec, (row_length (own_layout rec)).1)
+  pub row_small : length row ≤ 23
+  row_small = omega (arith, row_size (own_layout rec) row kept, (row_length (own_layout rec)).1)
 
-  pub body_laid : (rows digits last out : List ℕ) → rows ≡ all_rows → digits ≡ digits_out rec
-      → last ≡ over (render (map place (take (span.end - span.start) (drop span.start rows))) digits) out → last ≡ over (body_bytes rec) out
+  pub body_laid : (digits last out : List ℕ) → digits ≡ digits_out rec → last ≡ over (render (map place row) digits) out
+      → last ≡ over (body_bytes rec) out
   unfolding body_bytes
-  body_laid rows digits last out kept d e =
-      e ∙ ap₂ (λ r d. over (render r d) out) (span_row (own_layout rec) span marks rows kept) d
+  body_laid digits last out d e = e ∙ ap₂ (λ r d. over (render r d) out) (row_kept (own_layout rec) row kept) d
 
 pub over_room : (bytes out : List ℕ) → length bytes ≤ length out → over bytes out ≡ bytes ++ drop (length bytes) out
 unfolding over

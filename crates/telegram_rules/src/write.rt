@@ -1,7 +1,7 @@
-// How a telegram is to be written, and the answer about a write.
+// How a telegram is to be written.
 use trailer_rules::Order;
 
-#[derive(Clone, Copy)]
+#[derive(Clone, Copy, Debug, PartialEq, Eq)]
 pub struct Setting {
     pub control: bool,
     pub advance: bool,
@@ -9,15 +9,9 @@ pub struct Setting {
 
 // What a caller asks for: a setting by name, with the order of the trailer or, as printed, without; or none, which is a 6021 between
 // STX and ETX as printed, without second advance.
-#[derive(Clone, Copy)]
+#[derive(Clone, Copy, Debug, PartialEq, Eq)]
 pub enum Choice {
     Named(Setting),
     NamedIn(Setting, Order),
     Unnamed,
-}
-
-#[derive(Clone, Copy)]
-pub enum WriteAnswer {
-    Written(usize),
-    Refused(u8),
 }

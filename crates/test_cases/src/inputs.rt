@@ -3,7 +3,6 @@ use calendar::date::Date;
 use calendar::time::Time;
 use layouts::Layout;
 use line::{PLACES, Reader};
-use places::SLOTS;
 use record::{DatedLayout, Reception, Record, Status, TimeLayout};
 use takeover::{KEPT_PLACES, Kept};
 use telegram::write::{Choice, Setting};
@@ -13,50 +12,40 @@ use trailer::Order;
 pub(crate) const UNTOUCHED: u8 = 170;
 
 pub(crate) fn byte(bytes: &[u8], at: usize) -> u8 {
-    if at < bytes.len() {
-        return bytes[at];
-    }
-    0
+    bytes.get(at).copied().unwrap_or(0)
 }
 
 pub(crate) fn flag(bytes: &[u8], at: usize) -> bool {
     byte(bytes, at) != 0
 }
 
-fn joined(high: u8, low: u8) -> u16 {
-    256 * (high as u16) + low as u16
-}
-
-fn joined_32(high: u16, low: u16) -> u32 {
-    65536 * (high as u32) + low as u32
+// As many of the first bytes as the array has places.
+pub(crate) fn array<const N: usize>(bytes: &[u8]) -> [u8; N] {
+    let mut array = [0u8; N];
+    for (place, byte) in array.iter_mut().zip(bytes) {
+        *place = *byte;
+    }
+    array
 }
 
 // Two bytes, the high one first.
 pub(crate) fn number_16(bytes: &[u8]) -> u16 {
-    joined(byte(bytes, 0), byte(bytes, 1))
+    u16::from_be_bytes(array(bytes))
 }
 
 // Four bytes, the highest first.
 pub(crate) fn number_32(bytes: &[u8]) -> u32 {
-    joined_32(number_16(bytes), number_16(behind(bytes, 2)))
+    u32::from_be_bytes(array(bytes))
 }
 
 // The bytes behind the first so many.
 pub(crate) fn behind<'a>(bytes: &'a [u8], count: usize) -> &'a [u8] {
-    let length = bytes.len();
-    if length < count {
-        return &bytes[length..];
-    }
-    &bytes[count..]
+    &bytes[count.min(bytes.len())..]
 }
 
 // The first so many bytes, or all.
 pub(crate) fn first<'a>(bytes: &'a [u8], count: usize) -> &'a [u8] {
-    let length = bytes.len();
-    if length < count {
-        return &bytes[0..length];
-    }
-    &bytes[0..count]
+    &bytes[..count.min(bytes.len())]
 }
 
 pub(crate) fn dated_layout(number: u8) -> DatedLayout {
@@ -163,42 +152,13 @@ pub(crate) fn choice(number: u8) -> Choice {
     }
 }
 
-// Fills all of a buffer with the first bytes.
-fn fill(buffer: &mut [u8], bytes: &[u8]) {
-    for (at, place) in buffer.iter_mut().enumerate() {
-        *place = byte(bytes, at);
-    }
-}
-
-fn held(bytes: &[u8]) -> [u8; PLACES] {
-    let mut held = [0u8; PLACES];
-    fill(&mut held, bytes);
-    held
-}
-
-fn held_before(bytes: &[u8]) -> [u8; KEPT_PLACES] {
-    let mut held = [0u8; KEPT_PLACES];
-    fill(&mut held, bytes);
-    held
-}
-
-pub(crate) fn digits(bytes: &[u8]) -> [u8; SLOTS] {
-    let mut digits = [0u8; SLOTS];
-    fill(&mut digits, bytes);
-    digits
-}
-
-pub(crate) fn wide(n: u8) -> usize {
-    n as usize
-}
-
 // A reader is handed in as its places, how many are held, fed, stray, start and order.
 pub(crate) const STATE_BYTES: usize = PLACES + 14;
 
 pub(crate) fn reader(bytes: &[u8]) -> Reader {
     Reader {
-        held: held(bytes),
-        len: wide(byte(bytes, PLACES)),
+        held: array(bytes),
+        len: byte(bytes, PLACES) as usize,
         fed: number_32(behind(bytes, PLACES + 1)),
         stray: number_32(behind(bytes, PLACES + 5)),
         start: number_32(behind(bytes, PLACES + 9)),
@@ -209,8 +169,8 @@ pub(crate) fn reader(bytes: &[u8]) -> Reader {
 // A kept state is handed in alike, with the places that it had.
 pub(crate) fn kept(bytes: &[u8]) -> Kept {
     Kept {
-        held: held_before(bytes),
-        len: wide(byte(bytes, KEPT_PLACES)),
+        held: array(bytes),
+        len: byte(bytes, KEPT_PLACES) as usize,
         fed: number_32(behind(bytes, KEPT_PLACES + 1)),
         stray: number_32(behind(bytes, KEPT_PLACES + 5)),
         start: number_32(behind(bytes, KEPT_PLACES + 9)),

@@ -114,7 +114,7 @@ fn run(rt: &impl Print, letter: u8, bytes: &[u8]) -> io::Result<()> {
         b'q' => request_letters::reads(rt, bytes),
         _ => Ok(()),
     }?;
-    outputs::end_line(rt)
+    println!(rt)
 }
 
 // Fills a buffer; answers whether there were so many bytes.

@@ -1,13 +1,9 @@
 // The rows of a region that are not what they were before an operation.
-use super::{output, parts};
+use super::output;
 use std::io;
 
+// The last row may be shorter.
 const ROW: usize = 32;
-
-// The row at an offset. The last may be shorter.
-fn row<'a>(region: &'a [u8], offset: usize) -> &'a [u8] {
-    parts::first(parts::behind(region, offset), ROW)
-}
 
 fn print_row(rt: &impl Print, offset: usize, bytes: &[u8]) -> io::Result<()> {
     print!(rt; " {offset} ")?;
@@ -16,13 +12,11 @@ fn print_row(rt: &impl Print, offset: usize, bytes: &[u8]) -> io::Result<()> {
 }
 
 pub(crate) fn print_changed(rt: &impl Print, before: &[u8], after: &[u8]) -> io::Result<()> {
-    let mut offset = 0;
-    while offset < after.len() {
-        let bytes = row(after, offset);
-        if row(before, offset) != bytes {
-            print_row(rt, offset, bytes)?;
+    let rows = before.chunks(ROW).zip(after.chunks(ROW));
+    for (number, (was, row)) in rows.enumerate() {
+        if row != was {
+            print_row(rt, ROW * number, row)?;
         }
-        offset += ROW;
     }
     Ok(())
 }

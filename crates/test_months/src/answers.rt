@@ -4,13 +4,14 @@
 //   the telegram of a station clock with the record, stepped once
 //   the telegram that is written with second advance
 // The last three are asked of the record that was read, or of the given one where it does not read.
-use clock::{Clock, StepAnswer};
+use clock::Clock;
 use layouts::Layout;
-use record::season::UtcAnswer;
-use record::{DatedLayout, Record, RecordAnswer};
+use layouts::rows::row_of;
+use record::{DatedLayout, Record};
+use refusals::Refusal;
 use std::io;
 use std::io::Write;
-use telegram::write::{Choice, Setting, WriteAnswer};
+use telegram::write::{Choice, Setting};
 
 // A 6021 telegram without STX and ETX.
 const BARE: usize = 16;
@@ -18,26 +19,23 @@ const BARE: usize = 16;
 // Its characters in front of LF and CR: a line has no room for these two.
 const SHOWN: usize = 14;
 
-fn put_refusal<W: Write>(line: &mut W, number: u8) -> io::Result<()> {
-    write!(line, "!{number}")
+fn put_refusal<W: Write>(line: &mut W, refusal: Refusal) -> io::Result<()> {
+    write!(line, "!{}", refusal.number())
 }
 
 // The bare telegram that the fields spell. Writing would judge them, so they are laid by the row alone.
 fn spelt(rec: Record) -> [u8; BARE] {
     let digits = layouts::coding::digits_out(rec);
-    let rows = layouts::rows::rows();
-    let span = layouts::rows::span_of(Layout::Dated(DatedLayout::L6021));
-    let start = span.start;
-    let end = span.end;
+    let row = row_of(Layout::Dated(DatedLayout::L6021));
     let mut bytes = [0u8; BARE];
-    places::render(&rows[start..end], &digits, &mut bytes);
+    places::render(row, &digits, &mut bytes);
     bytes
 }
 
 fn put_utc<W: Write>(line: &mut W, rec: Record) -> io::Result<()> {
     match record::utc::utc_seconds(rec) {
-        UtcAnswer::Utc(seconds) => write!(line, "{}", seconds.0),
-        UtcAnswer::Refused(number) => put_refusal(line, number),
+        Ok(seconds) => write!(line, "{}", seconds.0),
+        Err(refusal) => put_refusal(line, refusal),
     }
 }
 
@@ -48,16 +46,16 @@ fn put_written<W: Write>(line: &mut W, rec: Record, advance: bool) -> io::Result
     };
     let mut bytes = [0u8; BARE];
     match telegram::write::write(rec, Choice::Named(setting), &mut bytes) {
-        WriteAnswer::Written(_) => line.write_all(&bytes[0..SHOWN]),
-        WriteAnswer::Refused(number) => put_refusal(line, number),
+        Ok(_) => line.write_all(&bytes[..SHOWN]),
+        Err(refusal) => put_refusal(line, refusal),
     }
 }
 
 fn put_stepped<W: Write>(line: &mut W, rec: Record) -> io::Result<()> {
     let stepped = Clock { rec }.step();
     match stepped.answer {
-        StepAnswer::Stepped => put_written(line, stepped.clock.rec, false),
-        StepAnswer::Refused(number) => put_refusal(line, number),
+        Ok(()) => put_written(line, stepped.clock.rec, false),
+        Err(refusal) => put_refusal(line, refusal),
     }
 }
 
@@ -73,12 +71,12 @@ fn put_others<W: Write>(line: &mut W, rec: Record) -> io::Result<()> {
 pub(crate) fn put_group<W: Write>(line: &mut W, rec: Record) -> io::Result<()> {
     write!(line, " ")?;
     match telegram::read::read(&spelt(rec), false) {
-        RecordAnswer::Good(good) => {
+        Ok(good) => {
             write!(line, "0")?;
             put_others(line, good)
         }
-        RecordAnswer::Refused(number) => {
-            put_refusal(line, number)?;
+        Err(refusal) => {
+            put_refusal(line, refusal)?;
             put_others(line, rec)
         }
     }

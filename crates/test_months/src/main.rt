@@ -10,16 +10,13 @@ mod records;
 use std::io;
 use std::io::{Cursor, Write};
 
-// The months of the calendar, counted from January 1980.
-const MONTHS: u16 = 1200;
-
 // No line is longer: a group has at most 43 bytes.
 const LINE: usize = 4200;
 
 // The groups of one day in each of the marks.
 fn put_day<W: Write>(line: &mut W, day: records::Day) -> io::Result<()> {
-    for mark in 0..records::MARKS {
-        for time in 0..records::TIMES {
+    for mark in records::MARKS {
+        for time in records::TIMES {
             answers::put_group(line, records::made(day, mark, time))?;
         }
     }
@@ -42,8 +39,10 @@ fn print_month(rt: &impl Print, year: u16, month: u8) -> io::Result<()> {
 }
 
 fn main(rt: HostRuntime) -> io::Result<()> {
-    for index in 0..MONTHS {
-        print_month(&rt, 1980 + index / 12, (index % 12 + 1) as u8)?;
+    for year in 1980..=2079 {
+        for month in 1..=12 {
+            print_month(&rt, year, month)?;
+        }
     }
     Ok(())
 }

@@ -1,5 +1,5 @@
 // The records that are asked about: a day, a mark and a time.
-use calendar::date::{Date, DayAnswer, DaysAnswer};
+use calendar::date::{Date, day_number, days_in_month};
 use calendar::time::Time;
 use record::{DatedLayout, Reception, Record, Status};
 
@@ -10,16 +10,34 @@ pub(crate) struct Day {
     weekday: u8,
 }
 
-pub(crate) const MARKS: u8 = 4;
+// Daylight time or not, and marked UTC or not.
+pub(crate) const MARKS: [(bool, bool); 4] = [
+    (false, false),
+    (true, false),
+    (false, true),
+    (true, true),
+];
 
-pub(crate) const TIMES: u8 = 12;
+// The full hours at which a UTC month may end: in UTC, and an hour or two later on a local clock. Of each the last second before
+// it, 60 and 61 in that second's place, and its own first second on the same day.
+pub(crate) const TIMES: [(u8, u8, u8); 12] = [
+    (23, 59, 59),
+    (23, 59, 60),
+    (23, 59, 61),
+    (0, 0, 0),
+    (0, 59, 59),
+    (0, 59, 60),
+    (0, 59, 61),
+    (1, 0, 0),
+    (1, 59, 59),
+    (1, 59, 60),
+    (1, 59, 61),
+    (2, 0, 0),
+];
 
 // The weekday that the calendar has for a date. 0, which no record may have, where it has no such date.
 fn weekday(date: Date) -> u8 {
-    match calendar::date::day_number(date) {
-        DayAnswer::Day(day) => calendar::date::weekday(day),
-        DayAnswer::Refused(_) => 0,
-    }
+    day_number(date).map(calendar::date::weekday).unwrap_or(0)
 }
 
 fn day_of(year: u16, month: u8, day: u8) -> Day {
@@ -36,57 +54,29 @@ pub(crate) fn first_day(year: u16, month: u8) -> Day {
 
 // Day 0, which no date has, where the calendar has no such month.
 pub(crate) fn last_day(year: u16, month: u8) -> Day {
-    match calendar::date::days_in_month(year, month) {
-        DaysAnswer::Days(days) => day_of(year, month, days),
-        DaysAnswer::Refused(_) => day_of(year, month, 0),
-    }
-}
-
-// Standard time and daylight time, and both again marked UTC.
-fn status(mark: u8) -> Status {
-    Status {
-        reception: Reception::Radio,
-        daylight: mark % 2 == 1,
-        utc: 2 <= mark,
-        announced: false,
-    }
-}
-
-fn clock_time(hour: u8, minute: u8, second: u8) -> Time {
-    Time {
-        hour,
-        minute,
-        second,
-    }
-}
-
-// The full hours at which a UTC month may end: in UTC, and an hour or two later on a local clock. Of each the last second before
-// it, 60 and 61 in that second's place, and its own first second on the same day.
-fn time(number: u8) -> Time {
-    match number {
-        0 => clock_time(23, 59, 59),
-        1 => clock_time(23, 59, 60),
-        2 => clock_time(23, 59, 61),
-        3 => clock_time(0, 0, 0),
-        4 => clock_time(0, 59, 59),
-        5 => clock_time(0, 59, 60),
-        6 => clock_time(0, 59, 61),
-        7 => clock_time(1, 0, 0),
-        8 => clock_time(1, 59, 59),
-        9 => clock_time(1, 59, 60),
-        10 => clock_time(1, 59, 61),
-        _ => clock_time(2, 0, 0),
-    }
+    day_of(year, month, days_in_month(year, month).unwrap_or(0))
 }
 
 // The record with these fields, right or wrong.
-pub(crate) fn made(day: Day, mark: u8, number: u8) -> Record {
-    let date = day.date;
+pub(crate) fn made(
+    day: Day,
+    (daylight, utc): (bool, bool),
+    (hour, minute, second): (u8, u8, u8),
+) -> Record {
     Record::Dated(
         DatedLayout::L6021,
-        status(mark),
+        Status {
+            reception: Reception::Radio,
+            daylight,
+            utc,
+            announced: false,
+        },
         day.weekday,
-        date,
-        time(number),
+        day.date,
+        Time {
+            hour,
+            minute,
+            second,
+        },
     )
 }

@@ -10,37 +10,21 @@ pub use trailer_rules::Order;
 fn size_from(control: bool) -> usize
     ensures { result ≡ size_from control }
 {
-    if control {
-        return 3;
-    }
-    2
+    if control { 3 } else { 2 }
 }
 
 // Where the trailer begins in a telegram of so many bytes; 0 in one that is too short to have one.
 pub fn place_in(length: usize, control: bool) -> usize
     ensures { result ≡ trailer_at control length }
 {
-    let size = size_from(control);
-    if length < size {
-        return 0;
-    }
-    length - size
+    length.saturating_sub(size_from(control))
 }
 
 // Exchanges the byte at a place with the one behind it, where both are there.
 pub fn exchange(bytes: &mut [u8], at: usize)
     ensures { bytes.new ≡ exchange_at at bytes.old }
 {
-    let length = bytes.len();
-    if length < 2 {
-        return;
+    if at < bytes.len().saturating_sub(1) {
+        bytes.swap(at, at + 1);
     }
-    if length - 2 < at {
-        return;
-    }
-    let next = at + 1;
-    let first = bytes[at];
-    let second = bytes[next];
-    bytes[at] = second;
-    bytes[next] = first;
 }

@@ -2,7 +2,7 @@
 #![tactic(auto)]
 
 // A setting of the line, which its reader and its writer have to share: as the tables print it, or exchanged.
-#[derive(Clone, Copy)]
+#[derive(Clone, Copy, Debug, PartialEq, Eq)]
 pub enum Order {
     AsPrinted,
     Exchanged,

@@ -2,22 +2,20 @@
 use mathlib.Core.Path.{sym, ◌∙◌}
 use Rattle.board_rules.specs.Settings.{is_offered}
 use Rattle.board.proofs.is_offered.Goals as goal
+use Rattle.board.proofs.is_offered.Goals.{then-is_either, else-is_either}
 
-pub returns-then-not-is_either : goal.returns-then-not-is_either
+pub returns-then-is_either-2 : goal.returns-then-is_either-2
 unfolding is_offered
-returns-then-not-is_either c = rw (sym c.is_either.ensures ∙ c.if-not-is_either.true)
+returns-then-is_either-2 c =
+    elim c.if-is_either.branch [
+      | then-is_either w ↦ rw (c.row_of.ensures, sym c.is_either.ensures ∙ w.if-is_either.true, sym w.is_either-then-is_either.ensures ∙ sym w.value-is ∙ c.if-is_either-2.true)
+      | else-is_either w ↦ cc
+    ]
 
-pub returns-then-not-is_either-2 : goal.returns-then-not-is_either-2
+pub returns-else-is_either-2 : goal.returns-else-is_either-2
 unfolding is_offered
-returns-then-not-is_either-2 c =
-    rw
-    (sym c.is_either.ensures ∙ c.if-not-is_either.false, sym c.is_either-2.ensures ∙ c.if-not-is_either-2.true)
-
-pub returns : goal.returns
-unfolding is_offered
-returns c =
-    rw (
-      c.row_of.ensures,
-      sym c.is_either.ensures ∙ c.if-not-is_either.false,
-      sym c.is_either-2.ensures ∙ c.if-not-is_either-2.false,
-    )
+returns-else-is_either-2 c =
+    elim c.if-is_either.branch [
+      | then-is_either w ↦ rw (c.if-is_either-2.false, sym c.is_either.ensures ∙ w.if-is_either.true, sym w.is_either-then-is_either.ensures ∙ sym w.value-is ∙ c.if-is_either-2.false)
+      | else-is_either w ↦ rw (c.if-is_either-2.false, sym c.is_either.ensures ∙ w.if-is_either.false)
+    ]

@@ -1,17 +1,14 @@
 -- `listing_of_lines::row_for` meets its contract.
-use mathlib.Core.Path.{ap, ◌∙◌}
-use Rattle.lent_buffer.specs.Laying.{laid}
-use Rattle.listing_of_lines.specs.Pages.{row_for}
+use Rattle.std.proofs.Common.{Ok, ap, sym, ◌∙◌}
+use Rattle.refusals.proofs.NumberLaws.{passed_on}
+use Rattle.line_rules.specs.Hearing.{heard_as}
 use Rattle.listing_of_lines.proofs.PageLaws.{nothing_laid, refused_laid}
 use Rattle.listing_of_lines.proofs.row_for.Goals as goal
 
-pub returns-in-Nothing : goal.returns-in-Nothing
-returns-in-Nothing c = nothing_laid c.args.out.now c.in-Nothing.is
+pub returns-in-None : goal.returns-in-None
+returns-in-None c = nothing_laid c.args.out.now (ap heard_as (c.in_ok-event.was ∙ ap Ok c.in-None.is))
 
-pub returns-in-Event : goal.returns-in-Event
-returns-in-Event c =
+pub returns-in_err-event : goal.returns-in_err-event
+returns-in_err-event c =
     let out = c.args.out.now in
-    ap (λ heard. laid (row_for heard) out) c.in-Event.is ∙ c.row.ensures
-
-pub returns-in-Refused : goal.returns-in-Refused
-returns-in-Refused c = refused_laid c.args.out.now c.in-Refused.is
+    refused_laid out (ap heard_as c.in_err-event.was) ∙ ap (λ told. (told, out)) (sym (passed_on _ _ c.from_residual.ensures.1))

@@ -1,15 +1,11 @@
 -- `listing_of_logs::read_slot` meets its contract.
 use mathlib.Core.Path.{ap, ◌∙◌}
-use native.Mathlib.Omega.{arith}
 use mathlib.Core.Bool.{true}
 use Rattle.telegram_rules.specs.Reading.{read_of}
 use Rattle.listing_of_logs.proofs.RowLaws.{slot_part}
 use Rattle.listing_of_logs.proofs.read_slot.Goals as goal
 
-pub overflow_add-size : goal.overflow_add-size
-overflow_add-size c = omega (arith, c.shared_slice_known-2-1.given 0)
-
 pub returns : goal.returns
 returns c =
     let slot = c.args.slot.now in
-    c.read.ensures ∙ ap (read_of true) (slot_part slot _ c.requires c.smaller-end.ensures)
+    c.read.ensures ∙ ap (read_of true) (slot_part slot _ c.requires c.min-end.ensures)

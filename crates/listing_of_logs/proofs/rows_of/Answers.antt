@@ -2,6 +2,7 @@
 use mathlib.Core.Path.{refl, ap, sym, ◌∙◌}
 use Rattle.refusals.specs.Refusals.{done}
 use Rattle.lent_buffer.specs.Laying.{laid}
+use Rattle.listing_rules.specs.LogRows.{block_row}
 use Rattle.listing_of_logs.proofs.RowLaws.{rows_good, rows_bad}
 use Rattle.listing_of_logs.proofs.rows_of.Goals as goal
 
@@ -9,7 +10,7 @@ pub returns-then-not-is_good : goal.returns-then-not-is_good
 returns-then-not-is_good c =
     let a = c.args in
     let bad = sym c.is_good.ensures ∙ c.if-not-is_good.true in
-    ap (λ rows. laid (done rows) a.out.now) (rows_bad a.number a.block.now bad)
+    ap (λ rows. laid (done rows) a.out.now) (rows_bad a.number a.block.now bad ∙ ap (block_row a.number) (sym c.number.ensures))
     ∙ c.block_row.ensures
 
 pub fill-used-requires : goal.fill-used-requires

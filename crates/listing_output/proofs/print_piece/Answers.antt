@@ -1,10 +1,10 @@
 -- `listing_output::print_piece` meets its contract.
-use Rattle.std.proofs.Common.{◌≡◌, ◌-◌, [], ◌++◌, length, take, drop, sym, ◌∙◌, subst, arith, drop_of_length-le}
-use Rattle.std.specs.Io.KnownBytes.{Appends}
+use Rattle.std.proofs.Common.{◌≡◌, ◌-◌, [], ◌++◌, length, take, drop, sym, ◌∙◌, arith, drop_of_length-le}
 use Rattle.std.proofs.KnownBytes.{Appends-nil, Appends-trans}
 use Rattle.line_rules.specs.Line.{places}
 use Rattle.listing_of_lines.specs.Pages.{page_of}
-use Rattle.listing_output.specs.Printing.{page_room, after_piece, piece_rows}
+use Rattle.listing_output.specs.Printing.{page_room}
+use Rattle.listing_output.proofs.SentLaws.{appends_same}
 use Rattle.listing_output.proofs.PieceLaws.{begins, all_laid, fits, turn, some_taken}
 use Rattle.listing_output.proofs.print_piece.Goals as goal
 
@@ -25,11 +25,7 @@ overflow_add-at g c =
     let a = c.args in
     let l = c.loop-at in
     let page = c.print_page-sheet in
-    omega (
-      arith,
-      fits (after_piece a.reader a.piece.now) l.next (piece_rows a.reader a.piece.now) l.invariant.laid a.piece.now l.at l.invariant.follows
-          page.result.reader page.result.taken page.ensures.reader page.ensures.taken l.invariant.in_piece,
-    )
+    omega (arith, fits _ _ _ _ a.piece.now l.at l.invariant.follows _ _ page.ensures.reader page.ensures.taken l.invariant.in_piece)
 
 pub loop-at-smaller : goal.loop-at-smaller
 loop-at-smaller g c =
@@ -38,10 +34,8 @@ loop-at-smaller g c =
     let page = c.print_page-sheet in
     omega (
       arith,
-      fits (after_piece a.reader a.piece.now) l.next (piece_rows a.reader a.piece.now) l.invariant.laid a.piece.now l.at l.invariant.follows
-          page.result.reader page.result.taken page.ensures.reader page.ensures.taken l.invariant.in_piece,
-      some_taken (after_piece a.reader a.piece.now) l.next (piece_rows a.reader a.piece.now) l.invariant.laid a.piece.now l.at l.invariant.follows
-          page.result.reader page.result.taken page.ensures.reader page.ensures.taken (omega arith),
+      fits _ _ _ _ a.piece.now l.at l.invariant.follows _ _ page.ensures.reader page.ensures.taken l.invariant.in_piece,
+      some_taken _ _ _ _ a.piece.now l.at l.invariant.follows _ _ page.ensures.reader page.ensures.taken (omega arith),
     )
 
 pub loop-at-preserved : goal.loop-at-preserved
@@ -50,21 +44,14 @@ loop-at-preserved g c =
     let l = c.loop-at in
     let page = c.print_page-sheet in
     record {
-      in_piece =
-          fits (after_piece a.reader a.piece.now) l.next (piece_rows a.reader a.piece.now) l.invariant.laid a.piece.now l.at l.invariant.follows
-          page.result.reader page.result.taken page.ensures.reader page.ensures.taken l.invariant.in_piece;
+      in_piece = fits _ _ _ _ a.piece.now l.at l.invariant.follows _ _ page.ensures.reader page.ensures.taken l.invariant.in_piece;
       laid = l.invariant.laid ++ (page_of page_room l.next (take (length a.piece.now - l.at) (drop l.at a.piece.now))).bytes;
       sent = Appends-trans _ _ _ _ _ l.invariant.sent (rw c.in_default.is at page.ensures.sent);
-      follows =
-          turn (after_piece a.reader a.piece.now) l.next (piece_rows a.reader a.piece.now) l.invariant.laid a.piece.now l.at l.invariant.follows
-          page.result.reader page.result.taken page.ensures.reader page.ensures.taken;
+      follows = turn _ _ _ _ a.piece.now l.at l.invariant.follows _ _ page.ensures.reader page.ensures.taken;
     }
 
 pub returns-clause-sent : goal.returns-clause-sent
 returns-clause-sent g c =
     let a = c.args in
     let l = c.loop-at in
-    subst (Appends _ _)
-    (all_laid (after_piece a.reader a.piece.now) l.next (piece_rows a.reader a.piece.now) l.invariant.laid (drop l.at a.piece.now)
-    (drop_of_length-le a.piece.now {i = l.at} (omega arith)) l.invariant.follows)
-    l.invariant.sent
+    appends_same _ _ _ _ (all_laid _ _ _ _ _ (drop_of_length-le a.piece.now {i = l.at} (omega arith)) l.invariant.follows) l.invariant.sent

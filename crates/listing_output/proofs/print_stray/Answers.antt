@@ -5,4 +5,4 @@ use Rattle.listing_output.proofs.SentLaws.{row_sent}
 use Rattle.listing_output.proofs.print_stray.Goals as goal
 
 pub returns : goal.returns
-returns g c = row_sent (done (stray_row c.args.stray)) _ _ _ _ _ _ c.stray_line-made.ensures c.print_row.ensures.told c.print_row.ensures.sent
+returns g c = row_sent (done (stray_row c.args.stray)) _ _ _ _ _ _ c.stray_line-made.ensures c.print_made.ensures.told c.print_made.ensures.sent

@@ -1,12 +1,17 @@
 -- `places::is_capital` meets its contract.
-use borrow.Author.Tests.{lt-leb, le-leb}
+use native.Mathlib.Omega.{arith}
+use Rattle.std.proofs.lemmas.Grind.{common_steps}
 use Rattle.places_rules.specs.Places.{is_capital}
 use Rattle.places.proofs.is_capital.Goals as goal
 
-pub returns-then-byte-lt65 : goal.returns-then-byte-lt65
+pub returns-in-65-to-70 : goal.returns-in-65-to-70
 unfolding is_capital
-returns-then-byte-lt65 c = simp (lt-leb _ _ c.if-byte-lt65.true)
+returns-in-65-to-70 c = grind (arith, common_steps)
 
-pub returns : goal.returns
+pub returns-in_default : goal.returns-in_default
 unfolding is_capital
-returns c = simp (le-leb _ _ c.if-byte-lt65.false)
+returns-in_default c = grind (arith, common_steps)
+
+pub returns-in_default-2 : goal.returns-in_default-2
+unfolding is_capital
+returns-in_default-2 c = grind (arith, common_steps)

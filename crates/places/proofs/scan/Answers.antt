@@ -1,54 +1,42 @@
--- `places::scan` meets its contract. The loop's invariant: what is left to see, added to what was found, is the whole.
+-- `places::scan` meets its contract.
 use native.Mathlib.Omega.{arith}
-use mathlib.Core.Path.{ap, sym, ◌∙◌}
+use mathlib.Core.Path.{◌≡◌, ap, sym, ◌∙◌}
 use Prim.Native.Nat.{◌%◌}
 use lib.ListN.{get_or, set}
+use Rattle.std.specs.Prelude.{ℕ, false, Option}
+use Rattle.std.specs.Option.{is_some}
+use Rattle.refusals.specs.declared.Refusal.{Refusal}
 use Rattle.refusals.specs.Refusals.{lower}
-use Rattle.places_rules.specs.Places.{slots}
-use Rattle.places_rules.specs.declared.Found.{Found}
-use Rattle.places_rules.proofs.Scanning.{onward_all, onward_step, onward_row_ends, onward_bytes_end}
+use Rattle.refusals.specs.Numbers.{number_if}
+use Rattle.refusals.proofs.NumberLaws.{number_if_none}
+use Rattle.places_rules.specs.Places.{Finding, slots}
+use Rattle.places_rules.proofs.Scanning.{onward_all, onward_step, onward_ends}
 use Rattle.places.proofs.scan.Goals as goal
+use Rattle.places.proofs.scan.Goals.{then-is_some, else-is_some}
 
 pub loop-at-init : goal.loop-at-init
 loop-at-init c = onward_all _ _
 
-pub bounds-row-at : goal.bounds-row-at
-bounds-row-at c = omega arith
-
-pub bounds-bytes-at : goal.bounds-bytes-at
-bounds-bytes-at c = c.if-at-bytes.true
-
-pub bounds-digits-slot : goal.bounds-digits-slot
-bounds-digits-slot c = omega arith
-
-pub bounds-digits-slot-in-loop-at : goal.bounds-digits-slot-in-loop-at
-bounds-digits-slot-in-loop-at c = omega arith
-
-pub overflow_add-at : goal.overflow_add-at
-overflow_add-at c = omega arith
-
-pub loop-at-smaller : goal.loop-at-smaller
-loop-at-smaller c = omega arith
+-- where there is no fault, what stood before is the lower of the two
+none_lowers : (here : Option Refusal) (before : ℕ) → is_some here ≡ false → before ≡ lower (number_if here) before
+none_lowers here before e = rw (number_if_none here e)
 
 pub loop-at-preserved : goal.loop-at-preserved
 loop-at-preserved c =
     let l = c.loop-at in
     let args = c.args in
-    let row = args.row.now in
-    let so_far : Found = record { digits = l.digits; fault = l.fault } in
-    onward_step row args.bytes.now l.at so_far _ c.loop-at-test.true (c.if-at-bytes.true)
-    (ap (set l.digits (get_or row l.at 0 % slots)) c.see-seen.ensures.0)
-    (c.lower-fault.ensures ∙ ap (λ f. lower f l.fault) c.see-seen.ensures.1)
+    let so_far : Finding = record { digits = l.digits; fault = number_if l.fault } in
+    let lowered : number_if c.if-is_some.fault ≡ lower (number_if c.see-seen.result.fault) (number_if l.fault) =
+    elim c.if-is_some.branch [
+      | then-is_some w ↦ ap number_if w.fault-is ∙ w.lowest-fault.ensures
+      | else-is_some w ↦ ap number_if w.fault-is ∙ none_lowers c.see-seen.result.fault _ (sym c.is_some.ensures ∙ w.if-is_some.false)
+    ] in
+    onward_step args.row.now args.bytes.now l.at so_far _ (omega arith) (omega arith)
+    (ap (set l.digits (get_or args.row.now l.at 0 % slots)) c.see-seen.ensures.0)
+    (lowered ∙ ap (λ f. lower f (number_if l.fault)) c.see-seen.ensures.1)
     ∙ l.invariant
 
-pub returns-else-at-bytes : goal.returns-else-at-bytes
-returns-else-at-bytes c =
-    let l = c.loop-at in
+pub returns : goal.returns
+returns c =
     let args = c.args in
-    sym (onward_bytes_end args.row.now args.bytes.now l.at _ (c.if-at-bytes.false)) ∙ l.invariant
-
-pub returns-after-loop-at : goal.returns-after-loop-at
-returns-after-loop-at c =
-    let l = c.loop-at in
-    let args = c.args in
-    sym (onward_row_ends args.row.now args.bytes.now l.at _ c.loop-at-test.false) ∙ l.invariant
+    sym (onward_ends args.row.now args.bytes.now c.loop-at.at _ (omega arith)) ∙ c.loop-at.invariant

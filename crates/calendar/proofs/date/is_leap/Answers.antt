@@ -1,16 +1,17 @@
 -- `calendar::date::is_leap` meets its contract.
-use borrow.Author.Tests.{eq-eqb, ne_eqb}
+use native.Mathlib.Omega.{arith}
+use Rattle.std.proofs.lemmas.Grind.{common_steps}
 use Rattle.calendar_rules.specs.Calendar.{is_leap}
 use Rattle.calendar.proofs.date.is_leap.Goals as goal
 
 pub returns-then-year-ne0 : goal.returns-then-year-ne0
 unfolding is_leap
-returns-then-year-ne0 c = simp (ne_eqb _ _ c.if-year-ne0.true)
+returns-then-year-ne0 c = grind (arith, common_steps)
 
-pub returns-then-year-ne0-2 : goal.returns-then-year-ne0-2
+pub returns-else-year-ne0 : goal.returns-else-year-ne0
 unfolding is_leap
-returns-then-year-ne0-2 c = simp (eq-eqb _ _ c.if-year-ne0.false, ne_eqb _ _ c.if-year-ne0-2.true)
+returns-else-year-ne0 c = grind (arith, common_steps)
 
-pub returns : goal.returns
+pub returns-else-year-eq0 : goal.returns-else-year-eq0
 unfolding is_leap
-returns c = simp (eq-eqb _ _ c.if-year-ne0.false, eq-eqb _ _ c.if-year-ne0-2.false)
+returns-else-year-eq0 c = grind (arith, common_steps)

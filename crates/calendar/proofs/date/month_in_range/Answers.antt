@@ -1,12 +1,13 @@
 -- `calendar::date::month_in_range` meets its contract.
-use mathlib.Core.Path.{sym, ◌∙◌}
+use native.Mathlib.Omega.{arith}
+use Rattle.std.proofs.lemmas.Grind.{common_steps}
 use Rattle.calendar_rules.specs.Calendar.{month_in_range}
 use Rattle.calendar.proofs.date.month_in_range.Goals as goal
 
-pub returns-then-not-inside : goal.returns-then-not-inside
+pub returns-then-contains : goal.returns-then-contains
 unfolding month_in_range
-returns-then-not-inside c = rw (sym c.inside.ensures ∙ c.if-not-inside.true)
+returns-then-contains c = grind (arith, common_steps)
 
-pub returns : goal.returns
+pub returns-else-contains : goal.returns-else-contains
 unfolding month_in_range
-returns c = rw (sym c.inside.ensures ∙ c.if-not-inside.false) c.inside-2.ensures
+returns-else-contains c = grind (arith, common_steps)

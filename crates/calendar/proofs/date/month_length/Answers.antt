@@ -1,30 +1,22 @@
 -- `calendar::date::month_length` meets its contract.
 use mathlib.Core.Path.{sym, ◌∙◌}
-use mathlib.Core.Logic.{⊎_elim, inl, inr}
-use borrow.Author.Tests.{ne_eqb}
+use native.Mathlib.Omega.{arith}
+use Rattle.std.proofs.lemmas.Grind.{common_steps}
 use Rattle.calendar_rules.specs.Calendar.{month_length}
 use Rattle.calendar.proofs.date.month_length.Goals as goal
 
-pub returns-then-is_leap : goal.returns-then-is_leap
+pub returns-in-2 : goal.returns-in-2
 unfolding month_length
-returns-then-is_leap c = simp (c.in-2.is, sym c.is_leap.ensures ∙ c.if-is_leap.true)
+returns-in-2 c = simp (c.in-2.is, sym c.is_leap.ensures ∙ c.if-is_leap.true)
 
-pub returns-else-is_leap : goal.returns-else-is_leap
+pub returns-in-2-2 : goal.returns-in-2-2
 unfolding month_length
-returns-else-is_leap c = simp (c.in-2.is, sym c.is_leap.ensures ∙ c.if-is_leap.false)
+returns-in-2-2 c = simp (c.in-2.is, sym c.is_leap.ensures ∙ c.if-is_leap.false)
 
 pub returns-in-4 : goal.returns-in-4
 unfolding month_length
-returns-in-4 c = ⊎_elim (λ e. rw e) (⊎_elim (λ e. rw e) (⊎_elim (λ e. rw e) (λ e. rw e))) c.in-4.is
+returns-in-4 c = grind (arith, common_steps)
 
 pub returns-in_default : goal.returns-in_default
 unfolding month_length
-returns-in_default c =
-    let other = c.in_default.in_default-own.rest.1 in
-    simp (
-      ne_eqb _ 2 c.in_default.in_default-own.rest.0.1,
-      ne_eqb _ 4 (λ e. other (inl e)),
-      ne_eqb _ 6 (λ e. other (inr (inl e))),
-      ne_eqb _ 9 (λ e. other (inr (inr (inl e)))),
-      ne_eqb _ 11 (λ e. other (inr (inr (inr e)))),
-    )
+returns-in_default c = grind (arith, common_steps)

@@ -10,36 +10,36 @@ pub returns-then-not-time_in_range : goal.returns-then-not-time_in_range
 unfolding unless time_refusal next_second
 returns-then-not-time_in_range c = rw (sym c.time_in_range.ensures ∙ c.if-not-time_in_range.true)
 
-pub returns-then-time-lt59 : goal.returns-then-time-lt59
+pub returns-then-second-lt59 : goal.returns-then-second-lt59
 unfolding unless time_refusal time_after next_second
-returns-then-time-lt59 c =
+returns-then-second-lt59 c =
     let range = sym c.time_in_range.ensures ∙ c.if-not-time_in_range.false in
-    let second = c.if-time-lt59.true in
+    let second = c.if-second-lt59.true in
     simp (range, not_last_second c.args.time second, lt-ltb _ _ second)
 
-pub returns-then-time-lt59-2 : goal.returns-then-time-lt59-2
+pub returns-then-minute-lt59 : goal.returns-then-minute-lt59
 unfolding unless time_refusal time_after next_second
-returns-then-time-lt59-2 c =
+returns-then-minute-lt59 c =
     let range = sym c.time_in_range.ensures ∙ c.if-not-time_in_range.false in
-    let second = c.if-time-lt59.false in
-    let minute = c.if-time-lt59-2.true in
+    let second = c.if-second-lt59.false in
+    let minute = c.if-minute-lt59.true in
     simp (range, not_last_minute c.args.time minute, le-ltb _ _ second, lt-ltb _ _ minute)
 
-pub returns-then-time-lt23 : goal.returns-then-time-lt23
+pub returns-then-hour-lt23 : goal.returns-then-hour-lt23
 unfolding unless time_refusal time_after next_second
-returns-then-time-lt23 c =
+returns-then-hour-lt23 c =
     let range = sym c.time_in_range.ensures ∙ c.if-not-time_in_range.false in
-    let second = c.if-time-lt59.false in
-    let minute = c.if-time-lt59-2.false in
-    let hour = c.if-time-lt23.true in
+    let second = c.if-second-lt59.false in
+    let minute = c.if-minute-lt59.false in
+    let hour = c.if-hour-lt23.true in
     simp (range, not_last_hour c.args.time hour, le-ltb _ _ second, le-ltb _ _ minute, lt-ltb _ _ hour)
 
 pub returns : goal.returns
 unfolding unless time_refusal time_after next_second
 returns c =
     let range = sym c.time_in_range.ensures ∙ c.if-not-time_in_range.false in
-    let second = c.if-time-lt59.false in
-    let minute = c.if-time-lt59-2.false in
-    let hour = c.if-time-lt23.false in
+    let second = c.if-second-lt59.false in
+    let minute = c.if-minute-lt59.false in
+    let hour = c.if-hour-lt23.false in
     let last = last_second c.args.time (good_range _ range) hour minute second in
     simp (range, last, le-ltb _ _ second, le-ltb _ _ minute, le-ltb _ _ hour)

@@ -8,9 +8,6 @@ use Rattle.log_rules.proofs.BlockLaws.{reads_short, good_length}
 use Rattle.log_rules.proofs.LayLaws.{back_length, sealed_again}
 use Rattle.delivery_log.proofs.add.enter.Goals as goal
 
-pub slice_bounds-lay-count : goal.slice_bounds-lay-count
-slice_bounds-lay-count c = omega (arith, c.requires.2, good_length c.args.block.now c.requires.0)
-
 pub lay-requires : goal.lay-requires
 lay-requires c =
     let block = c.args.block.now in

@@ -1,17 +1,15 @@
--- `log::add::find_place` meets its contract. The loop's invariant: what is found so far leads on to what the whole search finds.
+-- `delivery_log::add::find_place` meets its contract. The loop's invariant: what is found so far leads on to what the whole search finds.
 use mathlib.Core.Path.{◌≡◌}
-use Prim.Native.Nat.{◌*◌, ◌-◌}
-use lib.ListN.{drop}
+use Rattle.std.specs.Slice.Iter.{chunks_exact_rest, chunks_exact_size}
+use Rattle.std.specs.Iterator.Adapters.{enumerate_source, enumerate_count}
 use Rattle.log_rules.specs.Block.{block_size}
-use Rattle.log_rules.specs.Region.{blocks_from}
+use Rattle.log_rules.specs.Region.{whole_blocks}
 use Rattle.log_rules.specs.Add.{place_in}
-use Rattle.log_rules.specs.Answers.{add_answer}
+use Rattle.refusals.specs.Numbers.{outcome}
 use Rattle.log_rules.specs.Tests.{place_then}
 use Rattle.delivery_log.proofs.add.find_place.Given as goal
 
 abbrev pub invariant-loop-at : goal.invariant-loop-at
 invariant-loop-at l =
-    place_then (add_answer l.found) l.at (blocks_from (l.blocks - l.at) (drop (block_size * l.at) l.region)) ≡ place_in l.region
-
-abbrev pub decreases-loop-at : goal.decreases-loop-at
-decreases-loop-at l = l.blocks - l.at
+    (chunks_exact_size (enumerate_source l.at-iterator) ≡ block_size)
+    × (place_then (outcome l.found) (enumerate_count l.at-iterator) (whole_blocks (chunks_exact_rest (enumerate_source l.at-iterator))) ≡ place_in l.region)

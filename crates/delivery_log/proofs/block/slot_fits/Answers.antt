@@ -1,4 +1,4 @@
--- `log::block::slot_fits` meets its contract.
+-- `delivery_log::block::slot_fits` meets its contract.
 use mathlib.Core.Path.{sym, ◌∙◌}
 use Rattle.log_rules.proofs.SlotLaws.{other_size, long_telegram, by_size}
 use Rattle.delivery_log.proofs.block.slot_fits.Goals as goal

@@ -1,46 +1,49 @@
--- `log::block::slots_fit` meets its contract. The loop's invariant: the slots that are left fit exactly when all do.
-use mathlib.Core.Path.{ap, sym, ◌∙◌}
-use native.Mathlib.Nat.{sub-zero}
-use native.Mathlib.Omega.{arith}
-use Rattle.log_rules.specs.Tests.{slots_fit}
-use Rattle.log_rules.proofs.SlotLaws.{slots_turn, slots_end}
+-- `delivery_log::block::slots_fit` meets its contract.
+use Rattle.std.proofs.Common.{◌≡◌, refl, ap, ap₂, ◌∙◌, ℕ, zero, suc, ◌*◌, ◌+◌, ◌<◌, ◌≤◌, List, [], ◌∷◌, ◌++◌, length, take, drop, arith, rules, tests, length-append}
+use Rattle.std.specs.List.{list_all}
+use Rattle.std.specs.Iterator.Adapters.{take_source, take_count, take_steps}
+use Rattle.std.specs.Slice.Iter.{chunks_exact_rest, chunks_exact_size, chunks_exact_steps}
+use Rattle.std.proofs.lemmas.Iterator.Search.{all_from_yields_List}
+use Rattle.std.proofs.lemmas.Iterator.Splits.{YieldsList-from_shown_while}
+use lib.Seq.{take_at, drop_at}
+use Rattle.log_rules.specs.Block.{slot_size}
+use Rattle.log_rules.specs.Tests.{slot_fits, slots_fit}
 use Rattle.delivery_log.proofs.block.slots_fit.Goals as goal
 
-pub loop-at-init : goal.loop-at-init
-loop-at-init c = ap (λ n. slots_fit n c.args.block.now) (sub-zero c.args.count)
+-- so many slots, one by one
+abbrev slots_in : ℕ → List ℕ → List (List ℕ)
+slots_in zero bytes = []
+slots_in (suc n) bytes = take slot_size bytes ∷ slots_in n (drop slot_size bytes)
 
-pub overflow_mul-start : goal.overflow_mul-start
-overflow_mul-start c = omega (arith, c.requires)
+each_fits : (n : ℕ) (bytes : List ℕ) → list_all slot_fits (slots_in n bytes) ≡ slots_fit n bytes
+each_fits zero bytes = refl
+each_fits (suc n) bytes = rw (each_fits n (drop slot_size bytes))
 
-pub overflow_add-end : goal.overflow_add-end
-overflow_add-end c = omega (arith, c.requires)
+first_in : (count more : ℕ) (left slot rest : List ℕ) → more + 1 ≡ count → left ≡ slot ++ rest → length slot ≡ slot_size
+    → slots_in count left ≡ slot ∷ slots_in more rest
+first_in count more left slot rest one parted size =
+    let next : count ≡ suc more = omega arith in
+    rw (next, parted, take_at slot rest slot_size size, drop_at slot rest slot_size size)
 
-pub slice_bounds-slot_fits-count : goal.slice_bounds-slot_fits-count
-slice_bounds-slot_fits-count c = omega arith
-
-pub slice_bounds-slot_fits-start : goal.slice_bounds-slot_fits-start
-slice_bounds-slot_fits-start c = omega arith
-
-pub slice_bounds-slot_fits-end : goal.slice_bounds-slot_fits-end
-slice_bounds-slot_fits-end c = omega (arith, c.requires)
-
-pub returns-then-not-slot_fits : goal.returns-then-not-slot_fits
-returns-then-not-slot_fits c =
-    let block = c.args.block.now in
-    let bad = sym c.slot_fits.ensures ∙ c.if-not-slot_fits.true in
-    sym (slots_turn _ _ block c.loop-at-test.true bad) ∙ c.loop-at.invariant
-
-pub overflow_add-at : goal.overflow_add-at
-overflow_add-at c = omega arith
-
-pub loop-at-smaller : goal.loop-at-smaller
-loop-at-smaller c = omega arith
-
-pub loop-at-preserved : goal.loop-at-preserved
-loop-at-preserved c =
-    let block = c.args.block.now in
-    let good = sym c.slot_fits.ensures ∙ c.if-not-slot_fits.false in
-    sym (slots_turn _ _ block c.loop-at-test.true good) ∙ c.loop-at.invariant
+none_in : (n : ℕ) (bytes : List ℕ) → slot_size * n ≤ length bytes → (0 < n → length bytes < slot_size) → length (slots_in n bytes) ≡ 0
+none_in zero bytes fits none = refl
+none_in (suc n) bytes fits none = absurd (omega (arith, none (omega arith)))
 
 pub returns : goal.returns
-returns c = sym (slots_end _ _ _ c.loop-at-test.false) ∙ c.loop-at.invariant
+returns c =
+    let source = c.take.ensures.source in
+    let left = ap chunks_exact_rest source ∙ c.chunks_exact.ensures.rest in
+    all_from_yields_List slot_fits _ _ _ c.all.ensures.ran
+    (YieldsList-from_shown_while (take_steps chunks_exact_steps) (λ slot. slot.now)
+    (λ t. slots_in (take_count t) (chunks_exact_rest (take_source t)))
+    (λ t. (chunks_exact_size (take_source t) ≡ slot_size) × (slot_size * take_count t ≤ length (chunks_exact_rest (take_source t))))
+    (λ t u held step. none_in _ _ held.1 (λ some. omega (arith, (step some).1.0, held.0)))
+    (λ t slot u held step. (
+      (step.0.0 ∙ held.0, omega (arith, held.1, step.1, ap length step.0.1.0 ∙ length-append slot.now _)),
+      first_in _ _ _ slot.now _ step.1 step.0.1.0 (step.0.1.1 ∙ held.0),
+    ))
+    c.take.result
+    (ap chunks_exact_size source ∙ c.chunks_exact.ensures.size, omega (arith, c.requires, ap length left, c.take.ensures.count)))
+    (λ slot fits q called. search (rules, tests))
+    ∙ ap₂ (λ n bytes. list_all slot_fits (slots_in n bytes)) c.take.ensures.count left
+    ∙ each_fits c.args.count c.args.block.now

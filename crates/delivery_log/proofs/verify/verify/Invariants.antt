@@ -1,14 +1,13 @@
--- `log::verify::verify` meets its contract. The loop's invariant: the blocks that are left say what the whole region says.
+-- `delivery_log::verify::verify` meets its contract. The loop's invariant: the blocks that are left say what the whole region says.
 use mathlib.Core.Path.{◌≡◌}
-use Prim.Native.Nat.{◌*◌, ◌-◌}
-use lib.ListN.{drop}
+use Rattle.std.specs.Slice.Iter.{chunks_exact_rest, chunks_exact_size}
+use Rattle.std.specs.Iterator.Adapters.{enumerate_source, enumerate_count}
 use Rattle.log_rules.specs.Block.{block_size}
-use Rattle.log_rules.specs.Region.{blocks_from}
+use Rattle.log_rules.specs.Region.{whole_blocks}
 use Rattle.log_rules.specs.Verify.{first_bad, verify_of}
 use Rattle.delivery_log.proofs.verify.verify.Given as goal
 
 abbrev pub invariant-loop-at : goal.invariant-loop-at
-invariant-loop-at l = first_bad l.at (blocks_from (l.blocks - l.at) (drop (block_size * l.at) l.region)) ≡ verify_of l.region
-
-abbrev pub decreases-loop-at : goal.decreases-loop-at
-decreases-loop-at l = l.blocks - l.at
+invariant-loop-at l =
+    (chunks_exact_size (enumerate_source l.at-iterator) ≡ block_size)
+    × (first_bad (enumerate_count l.at-iterator) (whole_blocks (chunks_exact_rest (enumerate_source l.at-iterator))) ≡ verify_of l.region)

@@ -6,4 +6,4 @@ use Rattle.leitch.proofs.coding.status_out.Goals as goal
 
 pub returns : goal.returns
 unfolding found_in place
-returns c = ap (λ found. get_or found.digits 0 0) c.scan-found.ensures
+returns c = ap (λ found. get_or found.digits 0 0) c.scan.ensures

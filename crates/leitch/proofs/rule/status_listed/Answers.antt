@@ -1,12 +1,13 @@
 -- `leitch::rule::status_listed` meets its contract.
-use mathlib.Core.Path.{sym, ◌∙◌}
+use native.Mathlib.Omega.{arith}
+use Rattle.std.proofs.lemmas.Grind.{common_steps}
 use Rattle.leitch_rules.specs.Rule.{status_listed}
 use Rattle.leitch.proofs.rule.status_listed.Goals as goal
 
-pub returns-then-inside : goal.returns-then-inside
+pub returns-then-contains : goal.returns-then-contains
 unfolding status_listed
-returns-then-inside c = rw (sym c.inside.ensures ∙ c.if-inside.true)
+returns-then-contains c = grind (arith, common_steps)
 
-pub returns : goal.returns
+pub returns-else-contains : goal.returns-else-contains
 unfolding status_listed
-returns c = rw (sym c.inside.ensures ∙ c.if-inside.false) c.inside-2.ensures
+returns-else-contains c = grind (arith, common_steps)

@@ -1,26 +1,25 @@
 -- `leitch::write::write` meets its contract: each way it ends is a law of the definition.
-use mathlib.Core.Path.{sym, ◌∙◌}
+use mathlib.Core.Path.{sym, ap, ◌∙◌}
+use Rattle.refusals.proofs.NumberLaws.{passed_on}
 use Rattle.leitch_rules.proofs.WriteLaws.{ends_refused, ends_short, ends_disagreeing, ends_written}
 use Rattle.leitch.proofs.write.write.Goals as goal
 
-pub returns-then-refused-ne-NONE : goal.returns-then-refused-ne-NONE
-returns-then-refused-ne-NONE c = ends_refused c.args.reply c.args.out.now _ c.fields_refusal-refused.ensures c.if-refused-ne-NONE.true
+pub returns-in_err-check_fields : goal.returns-in_err-check_fields
+returns-in_err-check_fields c =
+    let out = c.args.out.now in
+    ends_refused c.args.reply out _ c.in_err-check_fields.ensures ∙ ap (λ told. (told, out)) (sym (passed_on _ _ c.from_residual.ensures.1))
 
 pub returns-then-out-lt-PLACES : goal.returns-then-out-lt-PLACES
 returns-then-out-lt-PLACES c =
-    let args = c.args in
-    ends_short args.reply args.out.now (sym c.fields_refusal-refused.ensures ∙ c.if-refused-ne-NONE.false) c.if-out-lt-PLACES.true
+    ends_short c.args.reply c.args.out.now (sym c.in_ok-check_fields.ensures) c.if-out-lt-PLACES.true
 
-pub returns-then-disagrees-ne-NONE : goal.returns-then-disagrees-ne-NONE
-returns-then-disagrees-ne-NONE c =
-    let args = c.args in
-    let fields_good = sym c.fields_refusal-refused.ensures ∙ c.if-refused-ne-NONE.false in
-    ends_disagreeing args.reply args.out.now fields_good c.if-out-lt-PLACES.false _ c.day_refusal-disagrees.ensures c.if-disagrees-ne-NONE.true
+pub returns-in_err-check_day : goal.returns-in_err-check_day
+returns-in_err-check_day c =
+    let out = c.args.out.now in
+    ends_disagreeing c.args.reply out (sym c.in_ok-check_fields.ensures) c.if-out-lt-PLACES.false _ c.in_err-check_day.ensures
+    ∙ ap (λ told. (told, out)) (sym (passed_on _ _ c.from_residual-in_err-check_day.ensures.1))
 
 pub returns : goal.returns
 returns c =
-    let args = c.args in
-    let fields_good = sym c.fields_refusal-refused.ensures ∙ c.if-refused-ne-NONE.false in
-    let day_good = sym c.day_refusal-disagrees.ensures ∙ c.if-disagrees-ne-NONE.false in
-    ends_written args.reply args.out.now fields_good c.if-out-lt-PLACES.false day_good _ _ _
-    c.row-row.ensures c.digits_out-digits.ensures c.render.ensures
+    ends_written c.args.reply c.args.out.now (sym c.in_ok-check_fields.ensures) c.if-out-lt-PLACES.false
+    (sym c.in_ok-check_day.ensures) _ _ _ c.row.ensures c.digits_out.ensures c.render.ensures

@@ -1,11 +1,9 @@
 -- `listing::rows::status_column` meets its contract.
-use Rattle.listing.proofs.TextLaws.{behind}
+use Rattle.std.proofs.Common.{arith}
+use Rattle.std.proofs.lemmas.Grind.{common_steps}
 use Rattle.listing_rules.specs.Listing.{status_column}
 use Rattle.listing.proofs.rows.status_column.Goals as goal
 
-pub returns : goal.returns
+pub returns-clause-said : goal.returns-clause-said
 unfolding status_column
-returns c =
-    let season = behind _ _ _ c.reception_word-len.ensures c.season_word-len.ensures in
-    let utc = behind _ _ _ season c.append_if-len.ensures in
-    behind _ _ _ utc c.append_if.ensures
+returns-clause-said c = grind (arith, common_steps)

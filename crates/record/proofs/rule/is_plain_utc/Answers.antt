@@ -1,16 +1,17 @@
 -- `record::rule::is_plain_utc` meets its contract.
-use borrow.Author.Tests.{not-true, not-false}
+use native.Mathlib.Omega.{arith}
+use Rattle.std.proofs.lemmas.Grind.{common_steps}
 use Rattle.record_rules.specs.Rule.{plain_utc}
 use Rattle.record.proofs.rule.is_plain_utc.Goals as goal
 
 pub returns-then-not-status : goal.returns-then-not-status
 unfolding plain_utc
-returns-then-not-status c = rw (not-true c.args.status.utc c.if-not-status.true)
+returns-then-not-status c = grind (arith, common_steps)
 
 pub returns-then-status : goal.returns-then-status
 unfolding plain_utc
-returns-then-status c = rw (not-false c.args.status.utc c.if-not-status.false, c.if-status.true)
+returns-then-status c = grind (arith, common_steps)
 
 pub returns : goal.returns
 unfolding plain_utc
-returns c = rw (not-false c.args.status.utc c.if-not-status.false, c.if-status.false)
+returns c = grind (arith, common_steps)

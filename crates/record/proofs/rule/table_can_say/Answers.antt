@@ -1,12 +1,13 @@
 -- `record::rule::table_can_say` meets its contract.
-use mathlib.Core.Path.{sym, ◌∙◌}
+use native.Mathlib.Omega.{arith}
+use Rattle.std.proofs.lemmas.Grind.{common_steps}
 use Rattle.record_rules.specs.Rule.{table_can_say}
 use Rattle.record.proofs.rule.table_can_say.Goals as goal
 
-pub returns-then-not-is_crystal_or_radio : goal.returns-then-not-is_crystal_or_radio
+pub returns-then-is_crystal_or_radio : goal.returns-then-is_crystal_or_radio
 unfolding table_can_say
-returns-then-not-is_crystal_or_radio c = rw (sym c.is_crystal_or_radio.ensures ∙ c.if-not-is_crystal_or_radio.true)
+returns-then-is_crystal_or_radio c = grind (arith, common_steps)
 
-pub returns : goal.returns
+pub returns-else-is_crystal_or_radio : goal.returns-else-is_crystal_or_radio
 unfolding table_can_say
-returns c = rw (sym c.is_crystal_or_radio.ensures ∙ c.if-not-is_crystal_or_radio.false) c.is_plain_utc.ensures
+returns-else-is_crystal_or_radio c = grind (arith, common_steps)

@@ -1,20 +1,14 @@
 -- `record::sixty::behind_59` meets its contract.
-use mathlib.Core.Path.{sym}
-use borrow.Author.Tests.{eq-eqb, ne_eqb}
+use native.Mathlib.Omega.{arith}
+use Rattle.std.proofs.lemmas.Grind.{common_steps}
 use Rattle.record_rules.specs.Sixty.{sixty_behind59}
 use Rattle.record_rules.proofs.SixtyLaws.{hour_decides}
 use Rattle.record.proofs.sixty.behind_59.Goals as goal
 
-pub returns-then-time-ne60 : goal.returns-then-time-ne60
+pub returns-then-time-eq59 : goal.returns-then-time-eq59
 unfolding sixty_behind59
-returns-then-time-ne60 c = rw (ne_eqb _ _ c.if-time-ne60.true)
+returns-then-time-eq59 c = grind (arith, common_steps, hour_decides)
 
-pub returns-then-time-ne59 : goal.returns-then-time-ne59
+pub returns-else-time-eq59 : goal.returns-else-time-eq59
 unfolding sixty_behind59
-returns-then-time-ne59 c = rw (eq-eqb _ _ c.if-time-ne60.false, ne_eqb _ _ c.if-time-ne59.true)
-
-pub returns : goal.returns
-unfolding sixty_behind59
-returns c =
-    let minute = c.if-time-ne59.false in
-    rw (eq-eqb _ _ c.if-time-ne60.false, eq-eqb _ _ minute) (sym (hour_decides c.args.time minute))
+returns-else-time-eq59 c = grind (arith, common_steps, hour_decides)

@@ -1,14 +1,13 @@
 -- `record::sixty::ends_in_utc` meets its contract.
-use borrow.Author.Tests.{eq-eqb, ne_eqb}
-use mathlib.Core.Path.{ap}
-use lib.Dec.{eqb}
+use native.Mathlib.Omega.{arith}
+use Rattle.std.proofs.lemmas.Grind.{common_steps}
 use Rattle.record_rules.specs.SixtyByFields.{ends_in_utc}
 use Rattle.record.proofs.sixty.ends_in_utc.Goals as goal
 
-pub returns-then-time-ne23 : goal.returns-then-time-ne23
+pub returns-then-time-eq23 : goal.returns-then-time-eq23
 unfolding ends_in_utc
-returns-then-time-ne23 c = rw (ne_eqb _ _ c.if-time-ne23.true)
+returns-then-time-eq23 c = grind (arith, common_steps)
 
-pub returns : goal.returns
+pub returns-else-time-eq23 : goal.returns-else-time-eq23
 unfolding ends_in_utc
-returns c = rw (eq-eqb _ _ c.if-time-ne23.false) (ap (eqb c.args.date.day) c.requires)
+returns-else-time-eq23 c = grind (arith, common_steps)

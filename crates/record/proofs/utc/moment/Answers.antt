@@ -1,37 +1,28 @@
 -- `record::utc::moment` meets its contract.
-use mathlib.Core.Path.{sym, ap, ◌∙◌}
+use mathlib.Core.Path.{sym, ap}
 use native.Mathlib.Omega.{arith}
 use Rattle.refusals.specs.Refusals.{done}
-use Rattle.calendar_rules.specs.Answers.{day_answer, second_answer}
+use Rattle.refusals.proofs.NumberLaws.{passed_on}
 use Rattle.calendar_rules.proofs.Laws.{day_number_bound, second_bound}
 use Rattle.record_rules.specs.Moment.{moment_of}
 use Rattle.record.proofs.utc.moment.Goals as goal
 
 pub overflow_mul-day : goal.overflow_mul-day
-overflow_mul-day c =
-    let day = sym c.day_number.ensures ∙ ap day_answer c.in-Day.is in
-    omega (arith, day_number_bound _ _ day)
+overflow_mul-day c = omega (arith, day_number_bound _ _ (sym c.in_ok-day.ensures))
 
 pub overflow_add-day : goal.overflow_add-day
 overflow_add-day c =
-    let day = sym c.day_number.ensures ∙ ap day_answer c.in-Day.is in
-    let second = sym c.second_of_day.ensures ∙ ap second_answer c.in-Second.is in
-    omega (arith, day_number_bound _ _ day, second_bound _ _ second)
+    omega (arith, day_number_bound _ _ (sym c.in_ok-day.ensures), second_bound _ _ (sym c.in_ok-second.ensures))
 
-pub returns-in-Refused : goal.returns-in-Refused
+pub returns-in_err-day : goal.returns-in_err-day
 unfolding moment_of
-returns-in-Refused c = rw (sym c.day_number.ensures ∙ ap day_answer c.in-Refused.is)
+returns-in_err-day c = rw (sym c.in_err-day.ensures) (passed_on _ _ c.from_residual.ensures.1)
 
-pub returns-in-Refused-second_of_day : goal.returns-in-Refused-second_of_day
+pub returns-in_err-second : goal.returns-in_err-second
 unfolding moment_of
-returns-in-Refused-second_of_day c =
-    let day = sym c.day_number.ensures ∙ ap day_answer c.in-Day.is in
-    let none = sym c.second_of_day.ensures ∙ ap second_answer c.in-Refused-second_of_day.is in
-    rw (day, none)
+returns-in_err-second c =
+    rw (sym c.in_ok-day.ensures, sym c.in_err-second.ensures) (passed_on _ _ c.from_residual-in_err-second.ensures.1)
 
-pub returns-in-Second : goal.returns-in-Second
+pub returns : goal.returns
 unfolding moment_of
-returns-in-Second c =
-    let day = sym c.day_number.ensures ∙ ap day_answer c.in-Day.is in
-    let second = sym c.second_of_day.ensures ∙ ap second_answer c.in-Second.is in
-    rw (day, second) (ap done c.as_marked.ensures)
+returns c = rw (sym c.in_ok-day.ensures, sym c.in_ok-second.ensures) (ap done c.as_marked.ensures)

@@ -1,12 +1,13 @@
 -- `remote::rule::position_in_range` meets its contract.
-use mathlib.Core.Path.{sym, ◌∙◌}
+use Rattle.std.proofs.Common.{arith}
+use Rattle.std.proofs.lemmas.Grind.{common_steps}
 use Rattle.remote_rules.specs.Rule.{position_in_range}
 use Rattle.remote.proofs.rule.position_in_range.Goals as goal
 
-pub returns-then-not-angle_in_range : goal.returns-then-not-angle_in_range
+pub returns-then-angle_in_range : goal.returns-then-angle_in_range
 unfolding position_in_range
-returns-then-not-angle_in_range c = rw (sym c.angle_in_range.ensures ∙ c.if-not-angle_in_range.true)
+returns-then-angle_in_range c = grind (arith, common_steps)
 
-pub returns : goal.returns
+pub returns-else-angle_in_range : goal.returns-else-angle_in_range
 unfolding position_in_range
-returns c = rw (sym c.angle_in_range.ensures ∙ c.if-not-angle_in_range.false) c.angle_in_range-2.ensures
+returns-else-angle_in_range c = grind (arith, common_steps)

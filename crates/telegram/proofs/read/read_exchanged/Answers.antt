@@ -1,46 +1,25 @@
--- `telegram::read::read_exchanged` meets its contract. The loop's invariant: the bytes copied so far.
-use Rattle.std.proofs.Common.{◌≡◌, length, get_or, take, sym, refl, ap, ◌∙◌, subst, arith, length-set}
-use Rattle.lent_buffer.proofs.CopyLaws.{copy_step}
-use Rattle.telegram_rules.proofs.ExchangeLaws.{too_long, copy_read}
-use Rattle.trailer_rules.specs.Trailer.{exchange_at}
-use Rattle.telegram_rules.specs.Reading.{read_of}
+-- `telegram::read::read_exchanged` meets its contract.
+use Rattle.std.proofs.Common.{◌≡◌, ℕ, Bool, List, ◌++◌, length, take, ap, ◌∙◌}
+use Rattle.std.proofs.lemmas.Grind.{common_steps}
+use native.Mathlib.Omega.{arith}
+use Rattle.trailer_rules.specs.Trailer.{trailer_at, exchange_at}
 use Rattle.trailer_rules.specs.declared.Order.TheVariants.{Exchanged}
+use Rattle.telegram_rules.specs.Reading.{read_of, read_in}
+use Rattle.telegram_rules.proofs.ExchangeLaws.{too_long, copy_read}
 use Rattle.telegram.proofs.read.read_exchanged.Goals as goal
 
 pub returns-then-length-gt-LONGEST : goal.returns-then-length-gt-LONGEST
 returns-then-length-gt-LONGEST c = too_long Exchanged c.args.control c.args.bytes.now c.if-length-gt-LONGEST.true
 
-pub loop-at-init : goal.loop-at-init
-loop-at-init c = (omega arith, refl, refl)
-
-pub bounds-copy-at : goal.bounds-copy-at
-bounds-copy-at c = omega (arith, c.if-length-gt-LONGEST.false)
-
-pub overflow_add-at : goal.overflow_add-at
-overflow_add-at c = omega arith
-
-pub loop-at-smaller : goal.loop-at-smaller
-loop-at-smaller c = omega arith
-
-pub loop-at-preserved : goal.loop-at-preserved
-loop-at-preserved c =
-    let bytes = c.args.bytes.now in
-    let l = c.loop-at in (
-      omega arith,
-      length-set l.copy l.at (get_or bytes l.at 0) ∙ l.invariant.1,
-      copy_step bytes l.copy l.at (omega arith) (omega (arith, c.if-length-gt-LONGEST.false, l.invariant.1)) l.invariant.2,
-    )
-
-pub slice_bounds-exchange-end : goal.slice_bounds-exchange-end
-slice_bounds-exchange-end c = sym c.loop-at.invariant.1
+-- what was copied and exchanged is read as printed
+by_copy : (control : Bool) (bytes front rest last : List ℕ) (at : ℕ) → front ≡ bytes → at ≡ trailer_at control (length bytes)
+    → last ≡ exchange_at at (front ++ rest) → read_of control (take (length bytes) last) ≡ read_in Exchanged control bytes
+by_copy control bytes front rest last at same place exchanged =
+    let copied : take (length bytes) (front ++ rest) ≡ take (length bytes) bytes = rw same (grind (arith, common_steps)) in
+    ap (λ copy. read_of control (take (length bytes) copy)) (exchanged ∙ ap (λ at. exchange_at at (front ++ rest)) place)
+    ∙ copy_read control bytes (front ++ rest) copied
 
 pub returns : goal.returns
 returns c =
-    let start = c.args in
-    let l = c.loop-at in
-    let all : l.at ≡ length start.bytes.now = omega (arith, l.invariant.0, c.loop-at-test) in
-    let copied = subst (λ n. take n l.copy ≡ take n start.bytes.now) all l.invariant.2 in
-    let exchanged = c.exchange.ensures ∙ ap (λ at. exchange_at at l.copy) c.place_in.ensures in
-    c.read_first.ensures
-    ∙ ap (λ bytes. read_of start.control (take (length start.bytes.now) bytes)) exchanged
-    ∙ copy_read start.control start.bytes.now l.copy copied
+    c.read.ensures
+    ∙ by_copy c.args.control c.args.bytes.now _ _ _ _ c.copy_from_slice.ensures.after c.place_in.ensures c.exchange.ensures

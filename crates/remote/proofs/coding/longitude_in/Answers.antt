@@ -1,5 +1,0 @@
--- `remote::coding::longitude_in` meets its contract.
-use Rattle.remote.proofs.coding.longitude_in.Goals as goal
-
-pub returns : goal.returns
-returns c = rw (c.pair-3.ensures, c.pair-2.ensures, c.pair.ensures)

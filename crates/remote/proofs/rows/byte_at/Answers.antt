@@ -1,7 +1,0 @@
--- `remote::rows::byte_at` meets its contract.
-use mathlib.Core.Path.{sym}
-use lib.ListN.{get_or-eq_default}
-use Rattle.remote.proofs.rows.byte_at.Goals as goal
-
-pub returns : goal.returns
-returns c = sym (get_or-eq_default c.args.bytes.now 0 {n = c.args.at} c.if-at-bytes.false)
