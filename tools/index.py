@@ -7,6 +7,7 @@ of each row names one thing or more, in backticks, and each must be there:
     crate/specs/File.name        a definition; crate/specs/File is all of a file
     crate/proofs/File.name       a theorem; crate/proofs/File is all of a file
     crate::module::name          a function, a type or a constant, also one that the module hands on
+    crate::module::Type::Case    a case of an enum
     crate/must-fail/label        a must-fail edit
     reference/file.name          a function or a table of the second implementation; reference/folder/file.name one in a folder of it
     path/of/a/file               a file, as a program's input crates/test_cases/stdin, a sample or a page
@@ -29,6 +30,8 @@ PROSE = ["README.md", "docs/USE.md", "docs/HOW-TO-CHANGE.md", "docs/PROMISES.md"
 NOT_YET = "not yet"
 NAME = re.compile(r"`([^`]+)`")
 DECLARED = re.compile(r"^(?:pub(?:\([\w:]+\))? )?(?:struct|enum|const|static|type) (\w+)", re.M)
+ENUM = re.compile(r"^(?:pub(?:\([\w:]+\))? )?enum (\w+)[^{;]*\{", re.M)
+CASE = re.compile(r"^ {4}(\w+)", re.M)
 BUILT = re.compile(r"crates/(\w+)/out/\1(?: .*)?")   # as one is named, or called with words
 QUOTED = re.compile(r"^```\w+ (\S+)\n(.*?)^```$", re.M | re.S)
 
@@ -59,6 +62,9 @@ class Names:
             self.there.add(module)
             text = tree.without_comments(tree.text_of(source))
             self.there |= {f"{module}::{declared}" for declared in DECLARED.findall(text) + tree.passed_on(text)}
+            for found in ENUM.finditer(text):
+                cases = CASE.findall(text[found.end():tree.closing(text, found.end() - 1)])
+                self.there |= {f"{module}::{found.group(1)}::{case}" for case in cases}
 
     def has(self, name):
         if name in self.there:

@@ -10,12 +10,18 @@ and is a fault: it is to be `pub(crate)`.
 A public function has no `requires`. Each clause of its `ensures` is an equation whose sides differ; but of something lent whose type
 the function leaves open, as a writer's, a clause may be a fact: a definition of the tree, of what it held and what it holds. Together
 the equations speak of the result, if it has one, and the clauses of everything lent with `&mut` as it is at the return; a clause that
-speaks of neither is a fault.
+speaks of neither is a fault. Of a reference that comes back a promise may say what stands behind it and not where that stands: then the
+page names the function under "What is left open".
+
+A method of a trait may have the trait's own contract, which speaks of the `ghost` members of the `impl`; these are its promise then.
+Each is a function of what the method takes: `Some ..` of what it writes, or, with the result behind what it takes, an equation whose
+sides differ and that speaks of the result. Where the `impl` has none the contract says nothing, and "What is left open" names the method.
 
 On the page a promise is the text of the `ensures`, word for word, by these rules and no others:
   1. white space is one space, and the name of a clause is left out;
   2. several clauses, and the factors of one that is a product `a × b`, stand one behind another, joined by `and`;
-  3. `|` is `\\|`, as a table asks.
+  3. of a method of a trait, each `ghost` member of the `impl` has its name in front, `NAME = ..`;
+  4. `|` is `\\|`, as a table asks.
 
 The page lists every public function by its path, as `calendar::date::day_number`, in a table whose first columns are `function`
 and `promise`. It may list others, whose promise must then be right too. The last column names must-fail edits in parentheses, as
@@ -33,6 +39,10 @@ PATH = re.compile(r"`(\w+(?:::\w+)+)`")
 NAMED = re.compile(r"\(((?:`[^`]+`(?:, | and | or )?)+)\)")
 LOOSER = re.compile(r"[→↔⊎¬λ]|\blet\b")   # what makes a term something else than facts, one beside another
 CELL = re.compile(r"(?<!\\)\|")
+
+
+def squeezed(text):
+    return re.sub(r"\s+", " ", text).strip()
 
 
 def without_brackets(text):
@@ -64,19 +74,26 @@ def factors(text):
     return [text] if len(parts) == 1 else [inner for part in parts for inner in factors(part)]
 
 
+def by_its_trait(function):
+    """Whether the contract of a method is the one that its trait has."""
+    return function.of_trait and not function.ensures()
+
+
 def clauses_of(function):
     """A function's promise, clause by clause."""
+    if by_its_trait(function):
+        yield from (f"{name} = {squeezed(text)}" for name, text in function.members)
     for text in function.ensures():
-        yield from factors(re.sub(r"\s+", " ", text).strip())
+        yield from factors(squeezed(text))
 
 
 def on_the_page(clause):
     return clause.replace("|", "\\|")
 
 
-def promise_of(function):
-    """What the page has to say."""
-    return " and ".join(f"`{on_the_page(clause)}`" for clause in clauses_of(function))
+def promise_of(functions):
+    """What the page has to say of the functions of one path: one, or the methods of a type that have one name in several `impl`s."""
+    return " and ".join(f"`{on_the_page(clause)}`" for function in functions for clause in clauses_of(function))
 
 
 def sides_of(clause):
@@ -102,10 +119,33 @@ def is_fact(clause, definitions):
     return clause.split(" ")[0].split("(")[0] in definitions
 
 
+def member_faults(function):
+    """What is not whole in the promise of a method that has its trait's contract."""
+    for clause in clauses_of(function):
+        found = re.fullmatch(r"\w+ = λ ((?:\w+ )*)(\w+)\. (.*)", clause)
+        sides = sides_of(found.group(3)) if found else None
+        if found and not found.group(1) and found.group(3).startswith("Some "):
+            continue
+        if not sides or sides[0] == sides[1] or not found.group(1):
+            yield f"promises neither what it writes nor an equation: {clause}"
+        elif not any(re.search(rf"(?<![\w.]){found.group(2)}(?![\w'])", side) for side in sides):
+            yield f"promises nothing of its result: {clause}"
+
+
+def is_left_open(function):
+    """Whether nothing is said of a method of a trait, or of a reference that comes back nothing but what stands behind it."""
+    said = " ".join(clause for clause in clauses_of(function) if speaks_of_the_result(clause))
+    return by_its_trait(function) and not function.members \
+        or function.result.startswith("&") and not re.search(r"(?<![\w.«])result\b(?!\.now\b)", said)
+
+
 def promise_faults(function, definitions):
     """What is not whole in a public function's promise."""
     if function.requires():
         yield "has a requires"
+    if by_its_trait(function):
+        yield from member_faults(function)
+        return
     clauses = list(clauses_of(function))
     if not clauses:
         yield "has no ensures"
@@ -137,7 +177,7 @@ class Row:
         self.path = found.group(1) if found else None
 
     def promise(self):
-        return re.sub(r"\s+", " ", self.cells[2]).strip()
+        return squeezed(self.cells[2])
 
 
 def rows_of(lines):
@@ -209,6 +249,10 @@ def page_faults(lines, rows, public, functions, known):
             yield f"docs/PROMISES.md:{number + 1}: {crate or 'no crate'}/{label} is no edit"
     for crate, label in sorted(there - {edit for edit, _ in named}):
         yield f"docs/PROMISES.md does not name the edit {crate}/{label}"
+    left_open = re.search(r"^## What is left open$.*?(?=^## |\Z)", "\n".join(lines), re.M | re.S)
+    for path in sorted(public):
+        if any(map(is_left_open, public[path])) and f"`{path}`" not in (left_open.group() if left_open else ""):
+            yield f"docs/PROMISES.md does not name {path} under \"What is left open\""
     with_edit = {number for _, number in named}
     names = names_known(known)
     for row in rows:
@@ -231,12 +275,12 @@ def main():
     faults, public, functions, definitions = [], {}, {}, definitions_of(known)
     for crate in (tree.Crate(name) for name in known):
         for function in crate.functions:
-            functions[function.path] = function
+            functions.setdefault(function.path, []).append(function)
             where = f"{function.source.relative_to(tree.ROOT)}:{function.line}: {function.path}"
             if function.is_pub and not crate.is_reachable(function):
                 faults.append(f"{where} cannot be called from outside its crate: make it pub(crate)")
             elif function.is_pub:
-                public[function.path] = function
+                public.setdefault(function.path, []).append(function)
                 faults += [f"{where} {fault}" for fault in promise_faults(function, definitions)]
     if sys.argv[1:] == ["--write"]:
         PAGE.write_text(written(tree.text_of(PAGE), functions), encoding="utf-8")
@@ -247,7 +291,7 @@ def main():
     faults += page_faults(lines, list(rows_of(lines)), public, functions, known)
     for fault in faults:
         print(fault)
-    print(f"promises: {len(public)} public functions, {len(faults)} faults")
+    print(f"promises: {sum(map(len, public.values()))} public functions, {len(faults)} faults")
     return 1 if faults else 0
 
 

@@ -15,6 +15,7 @@ PASSED_ON = re.compile(r"^pub use ([\w:]+(?:::\{[^{};]*\})?(?: as \w+)?);", re.M
 ITEM = re.compile(r"^(?:(?:abbrev|unfoldable|opaque|private) )*(pub )?(?:(?:abbrev|unfoldable|opaque) )*(record |data )?([^\s:(){}]+)")
 OF_A_FUNCTION = {"Answers.antt", "Invariants.antt", "Proof.antt"}
 NO_ITEM = {"use", "mod", "module", "open", "infix", "infixl", "infixr", "syntax", "package"}
+MEMBER = re.compile(r"^[ \t]*ghost (\w+)(?::[^=;]*)? = \{", re.M)
 CLAUSE = re.compile(r"\s*(ghost|requires|ensures|decreases)\b\*?\s*(?:[\w-]+:?)?\s*\{")
 APART = re.compile(r"//[^\n]*|\br(#*)\".*?\"\1|\"(?:\\.|[^\"\\])*\"|'(?:\\.[^'\n]*|[^'\\\n])'", re.S)
 RESULT = re.compile(r"\s*(?:->\s*((?:(?!\s(?:ghost|requires|ensures|decreases|where)\b)[^{])+))?(?:\s*where\b(?:(?!\s(?:ghost|requires|ensures|decreases)\b)[^{])*)?")
@@ -94,11 +95,13 @@ class Function:
     """A function of a source file: its path, whether it is `pub`, its parameters, its result and its clauses.
 
     A contract may have several clauses of a kind, each with a name; of a clause its word and its text are kept, and not its name.
+    Of a method of a trait, `members` are the `ghost` members of its `impl`, each with its name: the trait's own contract is in them.
     """
 
-    def __init__(self, source, line, module, holder, name, is_pub, generics, parameters, result, clauses):
+    def __init__(self, source, line, module, holder, name, is_pub, generics, parameters, result, clauses, of_trait, members):
         self.source, self.line, self.module, self.holder, self.name = source, line, module, holder, name
         self.is_pub, self.generics, self.parameters, self.result, self.clauses = is_pub, generics, parameters, result, clauses
+        self.of_trait, self.members = of_trait, members
         self.path = "::".join([module] + ([holder] if holder else []) + [name])
         self.crate = module.split("::")[0]
 
@@ -144,8 +147,14 @@ def holders_in(text):
             yield found.start(), closing(text, opening), name.group(1), bool(of_trait)
 
 
-def functions_of(source, module, open_types=()):
-    """Every function of a source file. A method of a trait is as public as its type, one of these or not."""
+def members_in(text, bare, begin, over):
+    """The `ghost` members of an `impl`, each with its name."""
+    return [(found.group(1), text[found.end():closing(bare, found.end() - 1) - 1].strip())
+            for found in MEMBER.finditer(bare, begin, over)]
+
+
+def functions_of(source, module, is_open_type):
+    """Every function of a source file. A method of a trait is as public as its type."""
     text, bare = without_comments(text_of(source)), without_literals(text_of(source))
     holders = list(holders_in(bare))
     for found in FUNCTION.finditer(bare):
@@ -153,11 +162,12 @@ def functions_of(source, module, open_types=()):
         generics, start = text[found.end() + 1:start - 1], bare.index("(", start)
         end = closing(bare, start)
         behind = RESULT.match(bare, end)
-        holder, of_trait = next(((name, of_trait) for begin, over, name, of_trait in holders if begin < found.start() < over), (None, False))
-        is_pub = found.group(1) == "pub " or of_trait and f"{module}::{holder}" in open_types
+        begin, over, holder, of_trait = next((around for around in holders if around[0] < found.start() < around[1]), (0, 0, None, False))
+        is_pub = found.group(1) == "pub " or of_trait and is_open_type(module, holder)
         line = bare.count("\n", 0, found.start()) + 1
         yield Function(source, line, module, holder, found.group(2), is_pub, generics, text[start + 1:end - 1],
-                       (behind.group(1) or "").strip(), clauses_behind(text, bare, behind.end(), f"{source}:{line}"))
+                       (behind.group(1) or "").strip(), clauses_behind(text, bare, behind.end(), f"{source}:{line}"),
+                       of_trait, members_in(text, bare, begin, over) if of_trait else [])
 
 
 class Crate:
@@ -172,7 +182,7 @@ class Crate:
         elif program.exists():
             self.visit(program, self.folder / "src", name, False)
         self.functions = [function for module, source in self.modules.items()
-                          for function in functions_of(source, module, self.types if module in self.open else ())]
+                          for function in functions_of(source, module, self.is_open_type)]
 
     def visit(self, source, below, module, is_open):
         text = without_comments(text_of(source))
@@ -187,6 +197,11 @@ class Crate:
                 inner = below / name / "mod.rt"
             if inner.exists():
                 self.visit(inner, below / name, f"{module}::{name}", is_open and visible == "pub ")
+
+    def is_open_type(self, module, name):
+        """Whether a type that a module names can be named from outside the crate: one that it declares, or one of another crate."""
+        own = {found for source in self.modules.values() for _, found in TYPE.findall(without_comments(text_of(source)))}
+        return module in self.open and (f"{module}::{name}" in self.types or name not in own)
 
     def declared(self):
         """The types that the crate declares, by their paths, each with its text."""
