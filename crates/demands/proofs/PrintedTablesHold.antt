@@ -1,4 +1,5 @@
 -- All that is printed holds, by the theorem of each table. Assumes nothing.
+use Rattle.refusals.proofs.NumbersAsPrintedHold as numbers
 use Rattle.layouts_rules.proofs.AsPrintedHolds as layouts
 use Rattle.telegram_rules.proofs.AsPrintedHolds as telegram
 use Rattle.trailer_rules.proofs.AsPrintedHolds as trailer
@@ -22,6 +23,7 @@ use Rattle.demands.proofs.BoundaryHolds.{boundary_table_law}
 
 pub all_is_as_printed : AllIsAsPrinted
 all_is_as_printed = (
+  numbers.as_printed_law,
   layouts.as_printed_law,
   records.as_printed_law,
   calendar.month_starts_as_printed,

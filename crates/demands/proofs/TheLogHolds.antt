@@ -1,5 +1,5 @@
 -- Document 02, c, holds. Assumes nothing.
-use mathlib.Core.Path.{◌∙◌}
+use mathlib.Core.Path.{◌∙◌, refl}
 use Rattle.log_rules.specs.Add.{add_of}
 use Rattle.log_rules.proofs.BlockHolds.{a_good_block_is_made_by_its_telegrams, a_good_block_has_512_bytes, a_zeroed_block_is_good_and_empty}
 use Rattle.log_rules.proofs.CheckLaws.{noticed, the_sum_fits, one_reduction_is_enough}
@@ -35,6 +35,7 @@ the_log = (
   good_blocks_stay_good,
   no_other_byte_changes,
   verify_names_the_first_bad_block,
+  (refl, λ block. refl),
   an_add_goes_behind_the_last_used,
   that_place_is_taken,
   adds_fill_zeroed_blocks_in_order,

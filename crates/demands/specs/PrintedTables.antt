@@ -1,6 +1,7 @@
 -- The tables and examples as documents 01 and 02 and the makers' manuals print them, in the documents' order. Each is stated in
 -- literal rows in the crate whose definitions it pins (in specs/, in a file with AsPrinted in its name), so that a swap made in
 -- definition and code together is refused there. This page names them all, to be held beside the documents.
+use Rattle.refusals.specs.NumbersAsPrinted.{TheNumbersAreAsPrinted}
 use Rattle.layouts_rules.specs.AsPrinted.{TheTablesAreAsPrinted}
 use Rattle.telegram_rules.specs.AsPrinted.{WritesAreAsPrinted}
 use Rattle.trailer_rules.specs.AsPrinted.{TrailersAreAsPrinted}
@@ -21,8 +22,10 @@ use Rattle.demands.specs.Boundary.{TheBoundaryTableHolds}
 
 abbrev pub AllIsAsPrinted : Type 0
 AllIsAsPrinted =
+    -- "Refusal numbers": each refusal with its number
+    TheNumbersAreAsPrinted
     -- "The seven layouts": the status and weekday characters of each table, a telegram of each layout, the two-digit years
-    TheTablesAreAsPrinted
+    × TheTablesAreAsPrinted
     -- "The seven layouts", "Calendar, UTC and the station clock": what a record may say, its count and its UTC seconds in each season
     × RecordsAreAsPrinted
     -- "Calendar": 1,200 month starts, 0, 31, 60 and 36,494; printed dates, times, the lengths of the months of every year

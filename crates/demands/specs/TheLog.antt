@@ -3,7 +3,9 @@
 use Rattle.std.specs.Prelude.{true, List, ◌≡◌, ℕ, ◌<◌}
 use Rattle.refusals.specs.Refusals.{Outcome, done}
 use Rattle.log_rules.specs.declared.Place.{Place}
-use Rattle.log_rules.specs.Verify.{AllGood, Bad, Verified}
+use Rattle.refusals.specs.Numbers.{number}
+use Rattle.log_rules.specs.declared.Damage.TheVariants.{NotWholeBlocks, BadBlock}
+use Rattle.log_rules.specs.Verify.{AllGood, Bad, Verified, refusal_of}
 use Rattle.log_rules.specs.Good.{reads_well, is_good}
 use Rattle.log_rules.specs.Region.{is_whole, blocks_in, block_at}
 use Rattle.log_rules.specs.OfABlock.{AGoodBlockIsMadeByItsTelegrams, AGoodBlockHas512Bytes, AZeroedBlockIsGoodAndEmpty}
@@ -41,6 +43,10 @@ NamesTheFirstBad verify =
 abbrev pub TheFirstBadBlockIsNamed : Type 0
 TheFirstBadBlockIsNamed = NamesTheFirstBad verifies
 
+-- "19 region not whole blocks", "20 block bad": the number of what is wrong with a region, whichever block is bad
+abbrev pub DamageHasItsNumber : Type 0
+DamageHasItsNumber = (number (refusal_of NotWholeBlocks) ≡ 19) × ((block : ℕ) → number (refusal_of (BadBlock block)) ≡ 20)
+
 abbrev pub TheLogIsAsAskedFor : Type 0
 TheLogIsAsAskedFor =
     -- "keep accepted telegrams in blocks of 512 bytes": a good block is, byte for byte, the one that its telegrams make, so that "a
@@ -61,6 +67,7 @@ TheLogIsAsAskedFor =
     × NoOtherByteChanges
     -- "and verify, which names the first bad block, over a lent region of whole blocks"
     × VerifyNamesTheFirstBadBlock
+    × DamageHasItsNumber
     -- "an add goes to the first free slot of a good block behind the last slot used in any good block"
     × AnAddGoesBehindTheLastUsed
     × ThatPlaceIsTaken
