@@ -15,7 +15,7 @@ page names the function under "What is left open".
 
 A method of a trait may have the trait's own contract, which speaks of the `ghost` members of the `impl`; these are its promise then.
 Each is a function of what the method takes: `Some ..` of what it writes, or, with the result behind what it takes, an equation whose
-sides differ and that speaks of the result. Where the `impl` has none the contract says nothing, and "What is left open" names the method.
+sides differ and that speaks of the result. Where the `impl` has none the contract says nothing, which is a fault.
 
 On the page a promise is the text of the `ensures`, word for word, by these rules and no others:
   1. white space is one space, and the name of a clause is left out;
@@ -121,6 +121,8 @@ def is_fact(clause, definitions):
 
 def member_faults(function):
     """What is not whole in the promise of a method that has its trait's contract."""
+    if not function.members:
+        yield "has no ensures, and its impl no member of which its trait's contract speaks"
     for clause in clauses_of(function):
         found = re.fullmatch(r"\w+ = λ ((?:\w+ )*)(\w+)\. (.*)", clause)
         sides = sides_of(found.group(3)) if found else None
@@ -133,10 +135,9 @@ def member_faults(function):
 
 
 def is_left_open(function):
-    """Whether nothing is said of a method of a trait, or of a reference that comes back nothing but what stands behind it."""
+    """Whether of a reference that comes back nothing is said but what stands behind it."""
     said = " ".join(clause for clause in clauses_of(function) if speaks_of_the_result(clause))
-    return by_its_trait(function) and not function.members \
-        or function.result.startswith("&") and not re.search(r"(?<![\w.«])result\b(?!\.now\b)", said)
+    return function.result.startswith("&") and not re.search(r"(?<![\w.«])result\b(?!\.now\b)", said)
 
 
 def promise_faults(function, definitions):

@@ -1,7 +1,7 @@
 // The refusals of documents 01 and 02. Every crate refuses with one of these and with nothing else.
 #![tactic(auto)]
 
-ghost use Rattle.std.specs.Prelude.{◌≡◌};
+ghost use Rattle.std.specs.Prelude.{◌≡◌, ◌++◌, codes, decimal, Some};
 ghost use Rattle.refusals.specs.Numbers.{number, number_if};
 ghost use Rattle.refusals.specs.Refusals.{lower};
 
@@ -46,6 +46,8 @@ impl Refusal {
 }
 
 impl fmt::Display for Refusal {
+    ghost output = { λ refusal. Some (codes "refused with " ++ decimal (number refusal)) };
+
     fn fmt<W: fmt::Write>(&self, f: &mut fmt::Formatter<W>) -> fmt::Result {
         write!(f, "refused with {}", self.number())
     }
@@ -53,7 +55,9 @@ impl fmt::Display for Refusal {
 
 impl Error for Refusal {}
 
-// The lower of two refusals, where there are any.
+// The lower of two refusals, where there are any. A scan asks for it at each byte that has a fault, and a call would take longer than the
+// tests.
+#[inline(always)]
 pub fn lowest(here: Option<Refusal>, before: Option<Refusal>) -> Option<Refusal>
     ensures { number_if result ≡ lower (number_if here) (number_if before) }
 {
