@@ -1,17 +1,31 @@
 -- Laws of the tests of a well-formed state, one byte after the other. Assumes nothing.
-use Rattle.std.proofs.Common.{◌≡◌, ℕ, zero, suc, ◌+◌, ◌-◌, ◌%◌, ◌^◌, ◌<◌, ◌≤◌, min, true, ◌&&◌, eqb, leb, le-leb, List, [], ◌∷◌, ◌++◌, length, get_or, take, drop, replicate, sym, refl, ap, ◌∙◌, ap₂, add-one, arith, length-drop, drop_of_length-le, length-take, drop-cons, drop-drop, eqb-true}
+use Rattle.std.proofs.Common.{◌≡◌, ℕ, zero, suc, ◌+◌, ◌-◌, ◌%◌, ◌^◌, ◌<◌, ◌≤◌, min, true, false, ◌&&◌, ◌||◌, eqb, leb, le-leb, List, [], ◌∷◌, ◌++◌, length, get_or, take, drop, replicate, sym, refl, ap, ◌∙◌, ap₂, add-one, arith, length-drop, drop_of_length-le, length-take, drop-cons, drop-drop, eqb-true}
 use Rattle.refusals.proofs.Laws.{both}
+use Rattle.ascii.specs.Control.{stx}
 use Rattle.trailer_rules.specs.declared.Order.{Order}
 use Rattle.line.specs.declared.Reader.{Reader}
 use Rattle.line.specs.Readers.{reader_with, reader_of, all_zero, well_formed, well_formed_at}
-use Rattle.line_rules.specs.Line.{places, line_with, start_of, all_plain, is_started}
+use Rattle.line_rules.specs.Line.{places, line_with, start_of, is_plain, all_plain, is_started}
+use Rattle.line_rules.specs.Runs.{has_stx}
 
--- zeros
+-- zeros, plain bytes, and an STX
 pub zero_step : (held : List ℕ) (at : ℕ) → at < length held → all_zero (drop at held) ≡ (eqb (get_or held at 0) 0 && all_zero (drop (at + 1) held))
 zero_step held at h = rw (drop-cons held at 0 h, add-one)
 
 pub zero_end : (held : List ℕ) (at : ℕ) → length held ≤ at → all_zero (drop at held) ≡ true
 zero_end held at h = rw (drop_of_length-le held h)
+
+pub plain_step : (held : List ℕ) (at : ℕ) → at < length held → all_plain (drop at held) ≡ (is_plain (get_or held at 0) && all_plain (drop (at + 1) held))
+plain_step held at h = rw (drop-cons held at 0 h, add-one)
+
+pub plain_end : (held : List ℕ) (at : ℕ) → length held ≤ at → all_plain (drop at held) ≡ true
+plain_end held at h = rw (drop_of_length-le held h)
+
+pub stx_step : (bytes : List ℕ) (at : ℕ) → at < length bytes → has_stx (drop at bytes) ≡ (eqb (get_or bytes at 0) stx || has_stx (drop (at + 1) bytes))
+stx_step bytes at h = rw (drop-cons bytes at 0 h, add-one)
+
+pub stx_end : (bytes : List ℕ) (at : ℕ) → length bytes ≤ at → has_stx (drop at bytes) ≡ false
+stx_end bytes at h = rw (drop_of_length-le bytes h)
 
 -- a started telegram
 pub started_parts : (held : List ℕ) → 0 < length held → is_started held ≡ (eqb (get_or held 0 0) 2 && all_plain (drop 1 held))

@@ -1,11 +1,11 @@
 -- Where the first byte of a kind stands, and the end where there is none. Assumes nothing.
-use Rattle.std.proofs.Common.{◌≡◌, ℕ, suc, ◌+◌, ◌≤◌, ◌&&◌, Bool, true, false, cond, not, ltb, eqb, List, [], ◌∷◌, length, Some, None, refl, ap, arith, ltb-false}
-use Rattle.std.specs.List.{position_or_len, list_all, AllWithin}
+use Rattle.std.proofs.Common.{◌≡◌, ℕ, suc, ◌+◌, ◌≤◌, Bool, true, false, cond, not, ltb, eqb, List, Some, None, refl, ap, arith, ltb-false}
+use Rattle.std.specs.List.{position_or_len}
 use Rattle.std.specs.Option.{unwrap_or}
-use Rattle.std.proofs.lemmas.List.Recursion.{is_position_or_len, or_from_places}
+use Rattle.std.proofs.lemmas.List.Recursion.{is_position_or_len}
 use Rattle.ascii.specs.Control.{stx}
-use Rattle.line_rules.specs.Line.{is_plain, all_plain}
-use Rattle.line_rules.specs.Runs.{has_stx, stray_run, plain_run}
+use Rattle.line_rules.specs.Line.{is_plain}
+use Rattle.line_rules.specs.Runs.{stray_run, plain_run}
 
 found_by : (n end : ℕ) → n ≤ end → (t : Bool) → ltb n end ≡ t → unwrap_or (cond t (Some n) None) end ≡ n
 found_by n end fits true e = refl
@@ -30,10 +30,3 @@ other false n = refl
 
 pub plain_found : (piece : List ℕ) → plain_run piece ≡ position_or_len is_other piece
 plain_found = is_position_or_len plain_run is_other refl (λ byte piece. other (is_plain byte) (plain_run piece))
-
-pub plain_all : (bytes : List ℕ) → list_all is_plain bytes ≡ all_plain bytes
-plain_all [] = refl
-plain_all (byte ∷ bytes) = ap (λ t. is_plain byte && t) (plain_all bytes)
-
-pub none_found : (bytes : List ℕ) → AllWithin (λ byte. is_stx byte ≡ false) bytes 0 (length bytes) → has_stx bytes ≡ false
-none_found bytes none = or_from_places has_stx is_stx refl (λ byte bytes. refl) bytes 0 (λ k h. none k 0 (omega arith) h)

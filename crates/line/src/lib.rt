@@ -56,7 +56,7 @@ fn is_started(held: &[u8]) -> bool
 {
     match held {
         [] => true,
-        [first, rest @ ..] => *first == STX && rest.iter().all(|byte| runs::is_plain(*byte)),
+        [first, rest @ ..] => *first == STX && runs::is_all_plain(rest),
     }
 }
 

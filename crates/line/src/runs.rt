@@ -1,7 +1,7 @@
 // Plain bytes at the front of a piece, which are held at once.
 ghost use Rattle.std.specs.Prelude.{◌≡◌, ◌≤◌};
 ghost use Rattle.std.proofs.Math.Seq.{paste};
-ghost use Rattle.line_rules.specs.Line.{places, is_plain};
+ghost use Rattle.line_rules.specs.Line.{places, is_plain, all_plain};
 ghost use Rattle.line_rules.specs.Runs.{roomy_run};
 
 use super::PLACES;
@@ -12,6 +12,17 @@ pub(crate) fn is_plain(byte: u8) -> bool
     ensures { result ≡ is_plain byte }
 {
     byte != STX && byte != ETX
+}
+
+// Whether all of these bytes are held so. None of them ends the loop, so that the compiler looks at many at once.
+pub(crate) fn is_all_plain(bytes: &[u8]) -> bool
+    ensures { result ≡ all_plain bytes.now }
+{
+    let mut plain = true;
+    for byte in bytes {
+        plain &= is_plain(*byte);
+    }
+    plain
 }
 
 // How many plain bytes stand at the front of a piece, as far as there is room for them behind the first `len`. The room is found first,

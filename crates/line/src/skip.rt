@@ -1,6 +1,6 @@
 // Stray bytes at the front of a piece, skipped to the next STX: block after block, and then byte after byte.
 ghost use Rattle.std.specs.Prelude.{◌≡◌, ◌+◌, drop};
-ghost use Rattle.line_rules.specs.Runs.{begins_with_stx, stray_run};
+ghost use Rattle.line_rules.specs.Runs.{begins_with_stx, has_stx, stray_run};
 
 use telegram::STX;
 
@@ -14,6 +14,17 @@ pub(crate) fn begins_with_stx(piece: &[u8]) -> bool
     matches!(piece, [STX, ..])
 }
 
+// Whether an STX stands among these bytes. None of them ends the loop, so that the compiler compares many at once.
+fn has_stx(bytes: &[u8]) -> bool
+    ensures { result ≡ has_stx bytes.now }
+{
+    let mut found = false;
+    for byte in bytes {
+        found |= *byte == STX;
+    }
+    found
+}
+
 // How many bytes stand in the blocks before the first that has an STX, or that the piece does not fill.
 fn stray_blocks(piece: &[u8]) -> usize
     ensures { result + stray_run (drop result piece.now) ≡ stray_run piece.now }
@@ -21,7 +32,7 @@ fn stray_blocks(piece: &[u8]) -> usize
     let mut at = 0;
     while BLOCK <= piece.len() - at {
         let end = at + BLOCK;
-        if piece[at..end].contains(&STX) {
+        if has_stx(&piece[at..end]) {
             return at;
         }
         at = end;
