@@ -2,7 +2,6 @@
 use Rattle.std.specs.Prelude.{List, ℕ, ◌+◌, ◌≤◌, length, Result, Ok, Err}
 use Rattle.listing.specs.declared.text.TheConstants.{TEXT_ROOM}
 use Rattle.refusals.specs.Refusals.{Outcome, done, refused}
-use Rattle.record_rules.specs.declared.Record.{Record}
 
 -- behind a text there is room for so many bytes more
 abbrev pub Room : List ℕ → ℕ → Type 0
@@ -28,7 +27,7 @@ most_columns = 58
 abbrev pub most_place : ℕ
 most_place = 42
 
--- what is told of a telegram: its record, or a number that refuses it
-abbrev pub told_as : Result Record ℕ → Outcome Record
-told_as (Ok rec) = done rec
+-- what is told, as a telegram's record: a value, or a number that refuses it
+abbrev pub told_as : {A : Type 0} → Result A ℕ → Outcome A
+told_as (Ok value) = done value
 told_as (Err number) = refused number

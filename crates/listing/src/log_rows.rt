@@ -10,6 +10,7 @@ use super::lay;
 use super::rows::{end_with_record, refused_row};
 use super::text::Text;
 use record::Record;
+use record::rule::check;
 use refusals::Refusal;
 
 // A block's number and the offset of its first byte.
@@ -33,6 +34,7 @@ pub fn header(out: &mut [u8]) -> Result<usize, Refusal>
 pub fn slot_row(block: u64, slot: u8, rec: Record, out: &mut [u8]) -> Result<usize, Refusal>
     ensures { laid (telegram_row block slot rec) out.old ≡ (outcome result, out.new) }
 {
+    check(rec)?;
     let mut text = Text::new();
     text.number_column(block);
     text.number_column(slot as u64);

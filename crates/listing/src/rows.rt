@@ -1,7 +1,6 @@
 // The rows of the listing: the header, one row for each event of the line, and the count of stray bytes at the end.
 ghost use Rattle.std.specs.Prelude.{◌≡◌, ◌++◌, ◌+◌, ◌≤◌, length};
-ghost use Rattle.refusals.specs.Refusals.{done, unless};
-ghost use Rattle.record_rules.specs.Rule.{refusal_of};
+ghost use Rattle.refusals.specs.Refusals.{done};
 ghost use Rattle.lent_buffer.specs.Laying.{laid};
 ghost use Rattle.listing_rules.specs.Listing.{header_row, dated_kind, time_kind, date_column, time_column, reception_word, season_word, status_column};
 ghost use Rattle.listing_rules.specs.Listing.{dated_columns, time_only_columns, columns, refused_row, event_row, stray_row};
@@ -137,17 +136,15 @@ fn columns(text: &mut Text, rec: Record)
     }
 }
 
-// The end of a telegram's row, behind the telegram's place: all that its record says; then all of it is laid. A record that no
-// telegram could carry has no row: 5 to 8.
+// The end of a telegram's row, behind the telegram's place: all that its record says; then all of it is laid.
 pub(crate) fn end_with_record(
     text: &mut Text,
     rec: Record,
     out: &mut [u8],
 ) -> Result<usize, Refusal>
     requires { Room text.old most_columns }
-    ensures { laid (unless (refusal_of rec) (text.old ++ columns rec)) out.old ≡ (outcome result, out.new) }
+    ensures { laid (done (text.old ++ columns rec)) out.old ≡ (outcome result, out.new) }
 {
-    check(rec)?;
     columns(text, rec);
     text.lay(out)
 }
@@ -174,6 +171,7 @@ pub fn row(start: u32, answer: Result<Record, u8>, out: &mut [u8]) -> Result<usi
 {
     match answer {
         Ok(rec) => {
+            check(rec)?;
             let mut text = Text::new();
             text.number_column(start as u64);
             end_with_record(&mut text, rec, out)
