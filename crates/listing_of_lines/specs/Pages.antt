@@ -1,5 +1,5 @@
 -- The rows of a line's events, one behind another in a lent buffer.
-use Rattle.std.specs.Prelude.{cond, List, [], ◌∷◌, ℕ, ◌-◌, length, drop}
+use Rattle.std.specs.Prelude.{cond, List, [], ◌∷◌, ℕ, ◌-◌, length, drop, Option, None, Some, Result, Ok, Err}
 use Rattle.refusals.specs.Refusals.{Outcome, done, refused}
 use Rattle.lent_buffer.specs.Endings.{Ending}
 use Rattle.lent_buffer.specs.Endings as ending
@@ -8,7 +8,15 @@ use Rattle.line.specs.declared.Reader.{Reader}
 use Rattle.line_rules.specs.Hearing.{Heard, Nothing, Event, Refused}
 use Rattle.line.specs.Readers.{well_formed, feed_reader, Fed}
 use Rattle.listing_rules.specs.Listing.{event_row}
+use Rattle.listing.specs.Texts.{told_as}
 use Rattle.listing_of_lines.specs.declared.Listed as code
+use Rattle.listing_of_lines.specs.declared.Told as told_code
+
+-- what is told with the numbers of its refusals, which may be any
+abbrev pub heard_in_numbers : Result (Option told_code.Told) ℕ → Heard
+heard_in_numbers (Ok None) = Nothing
+heard_in_numbers (Ok (Some event)) = Event (told_as event.answer) event.start event.size
+heard_in_numbers (Err number) = Refused number
 
 -- the row of what was heard: an event has one, nothing has none, and a refused state has its number
 abbrev pub row_for : Heard → Outcome (List ℕ)

@@ -5,10 +5,12 @@ ghost use Rattle.std.specs.Prelude.{◌≡◌, ◌++◌, length, drop};
 ghost use Rattle.lent_buffer.specs.Laying.{laid};
 ghost use Rattle.refusals.specs.Numbers.{outcome};
 ghost use Rattle.line_rules.specs.Hearing.{heard_as};
-ghost use Rattle.listing_of_lines.specs.Pages.{row_for, page_of, listed_for, listed_as};
+ghost use Rattle.listing.specs.Texts.{told_as};
+ghost use Rattle.listing_of_lines.specs.Pages.{row_for, heard_in_numbers, page_of, listed_for, listed_as};
 
 use line::{Heard, Reader};
 use listing::rows::row;
+use record::Record;
 use refusals::Refusal;
 
 // The reader after the bytes that were taken, how many they are, how many bytes their rows take, and how the call ended: the whole
@@ -21,8 +23,26 @@ pub struct Listed {
     pub ending: Result<(), Refusal>,
 }
 
-// The row of what was heard, at the front of a buffer.
-pub fn row_for(heard: Heard, out: &mut [u8]) -> Result<usize, Refusal>
+// An event, of which a caller may tell a refusal with any number.
+#[derive(Clone, Copy, Debug, PartialEq, Eq)]
+pub struct Told {
+    pub answer: Result<Record, u8>,
+    pub start: u32,
+    pub size: u32,
+}
+
+// The row of what was heard, at the front of a buffer. A refusal has any number, also that of a state that was refused.
+pub fn row_for(told: Result<Option<Told>, u8>, out: &mut [u8]) -> Result<usize, u8>
+    ensures { laid (row_for (heard_in_numbers told)) out.old ≡ (told_as result, out.new) }
+{
+    match told? {
+        Some(event) => row(event.start, event.answer, out).map_err(Refusal::number),
+        None => Ok(0),
+    }
+}
+
+// The same of what a reader hands out.
+pub fn row_of(heard: Heard, out: &mut [u8]) -> Result<usize, Refusal>
     ensures { laid (row_for (heard_as heard)) out.old ≡ (outcome result, out.new) }
 {
     match heard? {
@@ -49,7 +69,7 @@ pub fn list(reader: Reader, piece: &[u8], out: &mut [u8]) -> Listed
     let mut used = 0;
     while taken < piece.len() {
         let fed = next.feed(&piece[taken..]);
-        match row_for(fed.heard, &mut out[used..]) {
+        match row_of(fed.heard, &mut out[used..]) {
             Ok(n) => {
                 used += n;
                 next = fed.reader;

@@ -13,7 +13,7 @@ ghost use Rattle.listing_output.specs.Printing.{page_room, after_piece, printed,
 
 use line::{Heard, Reader};
 use listing::LONGEST_ROW;
-use listing_of_lines::row_for;
+use listing_of_lines::row_of;
 use refusals::Refusal;
 use std::io;
 use std::io::Write;
@@ -113,7 +113,7 @@ fn print_last<W: Write>(to: &mut W, heard: Heard, stray: u32) -> Result<(), Unwr
     ensures { IsSent result (W.contents to.old) (W.contents to.new) (bytes_of (row_for (heard_as heard)) ++ stray_row stray) }
 {
     let mut out = [0u8; LONGEST_ROW];
-    let made = row_for(heard, &mut out);
+    let made = row_of(heard, &mut out);
     print_made(to, made, &out)?;
     print_stray(to, stray)
 }

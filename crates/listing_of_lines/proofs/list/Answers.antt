@@ -17,10 +17,10 @@ returns-then-not-is_well_formed c =
 one_row : (c : In-Ok)
     → let a = c.args in
     let l = c.loop-taken in
-    Holds (rows_in (length a.out.now) a.reader a.piece.now) a.piece.now a.out.now (put_mid l.used (length l.out - l.used) l.out c.row_for.new.out)
+    Holds (rows_in (length a.out.now) a.reader a.piece.now) a.piece.now a.out.now (put_mid l.used (length l.out - l.used) l.out c.row_of.new.out)
     c.feed-fed.result.reader (l.taken + c.feed-fed.result.taken) (l.used + c.in-Ok.n)
     × (0 < c.feed-fed.result.taken)
-one_row c = row_stands _ _ _ _ _ _ _ c.loop-taken.invariant (omega arith) _ c.feed-fed.ensures _ _ c.row_for.ensures _ (ap outcome c.in-Ok.is)
+one_row c = row_stands _ _ _ _ _ _ _ c.loop-taken.invariant (omega arith) _ c.feed-fed.ensures _ _ c.row_of.ensures _ (ap outcome c.in-Ok.is)
 
 pub overflow_add-used : goal.overflow_add-used
 overflow_add-used c =
@@ -45,7 +45,7 @@ returns-in-Err c =
     let a = c.args in
     let good = sym c.is_well_formed.ensures ∙ c.if-not-is_well_formed.false in
     rw (page_good (length a.out.now) a.reader a.piece.now good)
-    (row_stops _ _ _ _ _ _ _ c.loop-taken.invariant (omega arith) _ c.feed-fed.ensures _ _ c.row_for.ensures _ (ap outcome c.in-Err.is))
+    (row_stops _ _ _ _ _ _ _ c.loop-taken.invariant (omega arith) _ c.feed-fed.ensures _ _ c.row_of.ensures _ (ap outcome c.in-Err.is))
 
 pub returns : goal.returns
 returns c =

@@ -7,5 +7,5 @@ use Rattle.listing_output.proofs.print_last.Goals as goal
 pub returns : goal.returns
 returns g c =
     let told = c.in_ok-print_made.ensures in
-    let sent = row_sent (row_for (heard_as c.args.heard)) _ _ _ _ _ _ c.row_for-made.ensures told.told told.sent in
+    let sent = row_sent (row_for (heard_as c.args.heard)) _ _ _ _ _ _ c.row_of-made.ensures told.told told.sent in
     sent_then _ _ _ _ _ _ sent c.print_stray.ensures
