@@ -1,4 +1,4 @@
--- What reading back hands out, by what is located; and the number 0 beside it tells that it is a telegram. Assumes nothing.
+-- What reading back hands out, by what is located; and it refuses nothing with the number 0. Assumes nothing.
 use mathlib.Core.Path.{◌≡◌, refl, ap₂}
 use mathlib.Core.Bool.{not}
 use mathlib.Core.List.{List, [], ◌∷◌}
@@ -25,7 +25,7 @@ module _ (region : Bor (List ℕ)) (block slot start size : ℕ)
       let behind : start + region.ref_ptr.1 ≡ region.ref_ptr.1 + telegram_place block slot = omega (arith, known.1.0) in
       rw (← known.0) (ap₂ (λ bytes offset. done (bytes, (region.ref_ptr.0, offset))) (part_lent size start region.now) behind)
 
--- No refusal has the number 0, so the 0 beside a part tells that it is a telegram.
+-- No refusal has the number 0, so where reading back gives 0 it gives a telegram.
 abbrev Told : {A : Type 0} → Outcome A → Type 0
 Told (done value) = Unit {0}
 Told (refused number) = number ≡ 0 → ⊥

@@ -10,12 +10,12 @@ use Rattle.refusals.specs.Numbers.{number}
 abbrev pub telegram_place : ℕ → ℕ → ℕ
 telegram_place block slot = block_size * block + slot_size * slot + 1
 
--- the number beside a telegram is 0
+-- the number that reading back gives: 0 where it gives a telegram
 abbrev pub number_of : Outcome (List ℕ) → ℕ
 number_of (done bytes) = 0
 number_of (refused number) = number
 
--- the bytes beside a refusal are none
+-- the bytes that it gives: none where it refuses
 abbrev pub bytes_of : Outcome (List ℕ) → List ℕ
 bytes_of (done bytes) = bytes
 bytes_of (refused number) = []

@@ -67,7 +67,7 @@ WhatIsAddedIsReadBack =
     (region telegram : List ℕ) (place : Place) → place_for region telegram ≡ done place
     → read_back_of (add_of region telegram).1 place.block place.slot ≡ done telegram
 
--- the number 0 beside a part that is handed out tells that it is a telegram: no refusal has it
+-- where reading back gives the number 0 it gives a telegram: no refusal has that number
 abbrev pub TheNumber0TellsATelegram : Type 0
 TheNumber0TellsATelegram =
     (region : List ℕ) (block slot : ℕ) → number_of (read_back_of region block slot) ≡ 0
