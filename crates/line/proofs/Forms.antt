@@ -1,31 +1,24 @@
 -- Laws of the tests of a well-formed state, one byte after the other. Assumes nothing.
-use Rattle.std.proofs.Common.{◌≡◌, ℕ, zero, suc, ◌+◌, ◌-◌, ◌%◌, ◌^◌, ◌<◌, ◌≤◌, min, true, false, ◌&&◌, ◌||◌, eqb, leb, le-leb, List, [], ◌∷◌, ◌++◌, length, get_or, take, drop, replicate, sym, refl, ap, ◌∙◌, ap₂, add-one, arith, length-drop, drop_of_length-le, length-take, drop-cons, drop-drop, eqb-true}
+use Rattle.std.proofs.Common.{◌≡◌, ℕ, zero, suc, ◌+◌, ◌-◌, ◌%◌, ◌^◌, ◌<◌, ◌≤◌, min, Bool, true, ◌&&◌, eqb, leb, le-leb, List, [], ◌∷◌, ◌++◌, length, get_or, take, drop, replicate, sym, refl, ap, ◌∙◌, ap₂, add-one, arith, length-drop, drop_of_length-le, length-take, drop-cons, drop-drop, eqb-true}
 use Rattle.refusals.proofs.Laws.{both}
-use Rattle.ascii.specs.Control.{stx}
 use Rattle.trailer_rules.specs.declared.Order.{Order}
 use Rattle.line.specs.declared.Reader.{Reader}
 use Rattle.line.specs.Readers.{reader_with, reader_of, all_zero, well_formed, well_formed_at}
-use Rattle.line_rules.specs.Line.{places, line_with, start_of, is_plain, all_plain, is_started}
-use Rattle.line_rules.specs.Runs.{has_stx}
+use Rattle.line_rules.specs.Line.{places, line_with, start_of, all_plain, is_started}
 
--- zeros, plain bytes, and an STX
-pub zero_step : (held : List ℕ) (at : ℕ) → at < length held → all_zero (drop at held) ≡ (eqb (get_or held at 0) 0 && all_zero (drop (at + 1) held))
-zero_step held at h = rw (drop-cons held at 0 h, add-one)
+-- a test that joins what is seen of each byte: what was seen so far, with what is left
+module _ (all : List ℕ → Bool) (test : ℕ → Bool) (join : Bool → Bool → Bool) (none : Bool)
+    (empty : all [] ≡ none) (cons : (byte : ℕ) (bytes : List ℕ) → all (byte ∷ bytes) ≡ join (test byte) (all bytes))
+    (assoc : (a b c : Bool) → join (join a b) c ≡ join a (join b c)) (unit : (a : Bool) → join a none ≡ a)
+    (bytes : List ℕ) (at : ℕ) (seen : Bool) (whole : join seen (all (drop at bytes)) ≡ all bytes) where
+  pub seen_on : at < length bytes → join (join seen (test (get_or bytes at 0))) (all (drop (at + 1) bytes)) ≡ all bytes
+  seen_on more = assoc seen (test (get_or bytes at 0)) (all (drop (at + 1) bytes)) ∙ ap (join seen) (sym step) ∙ whole
+    where
+      step : all (drop at bytes) ≡ join (test (get_or bytes at 0)) (all (drop (at + 1) bytes))
+      step = rw (drop-cons bytes at 0 more, add-one) (cons (get_or bytes at 0) (drop (suc at) bytes))
 
-pub zero_end : (held : List ℕ) (at : ℕ) → length held ≤ at → all_zero (drop at held) ≡ true
-zero_end held at h = rw (drop_of_length-le held h)
-
-pub plain_step : (held : List ℕ) (at : ℕ) → at < length held → all_plain (drop at held) ≡ (is_plain (get_or held at 0) && all_plain (drop (at + 1) held))
-plain_step held at h = rw (drop-cons held at 0 h, add-one)
-
-pub plain_end : (held : List ℕ) (at : ℕ) → length held ≤ at → all_plain (drop at held) ≡ true
-plain_end held at h = rw (drop_of_length-le held h)
-
-pub stx_step : (bytes : List ℕ) (at : ℕ) → at < length bytes → has_stx (drop at bytes) ≡ (eqb (get_or bytes at 0) stx || has_stx (drop (at + 1) bytes))
-stx_step bytes at h = rw (drop-cons bytes at 0 h, add-one)
-
-pub stx_end : (bytes : List ℕ) (at : ℕ) → length bytes ≤ at → has_stx (drop at bytes) ≡ false
-stx_end bytes at h = rw (drop_of_length-le bytes h)
+  pub seen_all : length bytes ≤ at → seen ≡ all bytes
+  seen_all over = sym (ap (join seen) (ap all (drop_of_length-le bytes over) ∙ empty) ∙ unit seen) ∙ whole
 
 -- a started telegram
 pub started_parts : (held : List ℕ) → 0 < length held → is_started held ≡ (eqb (get_or held 0 0) 2 && all_plain (drop 1 held))
