@@ -1,4 +1,4 @@
--- The words of the listing's private functions: a row in the making.
+-- The listing's own words: the room that a row in the making has, and what is told of a telegram.
 use Rattle.std.specs.Prelude.{List, ℕ, ◌+◌, ◌≤◌, length, Result, Ok, Err}
 use Rattle.listing.specs.declared.text.TheConstants.{TEXT_ROOM}
 use Rattle.refusals.specs.Refusals.{Outcome, done, refused}
