@@ -3,4 +3,5 @@ pub mod NumberLaws
 pub mod WholeLaws
 pub mod RoomLaws
 pub mod AsPrintedHolds
+pub mod RowsByTheirPartsHold
 pub mod ToldApart

@@ -1,3 +1,4 @@
 pub mod Pages
 pub mod Whole
 pub mod AsPrinted
+pub mod RowsByTheirParts
