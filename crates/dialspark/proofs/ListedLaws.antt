@@ -17,6 +17,7 @@ use Rattle.listing_rules.specs.Listing.{header_row, stray_row}
 use Rattle.listing_of_lines.specs.Whole.{row_of_event, rows_of, last_heard, listing_in}
 use Rattle.listing_output.specs.declared.Printer.{Printer}
 use Rattle.listing_output.specs.Printing.{Output, after_piece, printed, piece_rows, end_rows, IsSent}
+use Rattle.listing_output.proofs.SentLaws.{was_sent, appends_same}
 use Rattle.listing_output.proofs.LineLaws.{rows_of_line, reader_of_line, end_of_line}
 
 -- the reader and the rows of so many bytes of a line
@@ -45,7 +46,7 @@ rows_on order seen piece =
 
 -- what goes out, where everything does
 pub went_out : (told : Output) (before after : Option (List ℕ)) (rows same : List ℕ) → rows ≡ same → told ≡ Ok tt → IsSent told before after rows → Appends before after same
-went_out told before after rows same is whole sent = subst (Appends before after) is (subst (λ o. IsSent o before after rows) whole sent)
+went_out told before after rows same is whole sent = appends_same before after rows same is (was_sent told before after rows whole sent)
 
 -- a printer that took one, and what the writer then holds
 module _ (order : Order) (seen piece : List ℕ) (printer next : Printer) (reader : printer.reader ≡ reader_behind order seen) (whole : next.output ≡ Ok tt) where

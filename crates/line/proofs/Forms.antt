@@ -6,6 +6,13 @@ use Rattle.line.specs.declared.Reader.{Reader}
 use Rattle.line.specs.Readers.{reader_with, reader_of, all_zero, well_formed, well_formed_at}
 use Rattle.line_rules.specs.Line.{places, line_with, start_of, all_plain, is_started}
 
+-- zeros
+pub zero_step : (held : List ℕ) (at : ℕ) → at < length held → all_zero (drop at held) ≡ (eqb (get_or held at 0) 0 && all_zero (drop (at + 1) held))
+zero_step held at h = rw (drop-cons held at 0 h, add-one)
+
+pub zero_end : (held : List ℕ) (at : ℕ) → length held ≤ at → all_zero (drop at held) ≡ true
+zero_end held at h = rw (drop_of_length-le held h)
+
 -- a test that joins what is seen of each byte: what was seen so far, with what is left
 module _ (all : List ℕ → Bool) (test : ℕ → Bool) (join : Bool → Bool → Bool) (none : Bool)
     (empty : all [] ≡ none) (cons : (byte : ℕ) (bytes : List ℕ) → all (byte ∷ bytes) ≡ join (test byte) (all bytes))

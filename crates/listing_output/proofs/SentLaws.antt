@@ -32,6 +32,9 @@ pub row_sent : (row : Outcome (List ℕ)) (buffer last : List ℕ) (made : Resul
 row_sent row buffer last (Ok n) told before after is says sent = subst (IsSent told before after) (sym (row_back row buffer last n is)) sent
 row_sent row buffer last (Err refusal) told before after is says sent = subst (λ o. IsSent o before after (bytes_of row)) (sym says) tt
 
+pub was_sent : (told : Output) (before after : Option (List ℕ)) (bytes : List ℕ) → told ≡ Ok tt → IsSent told before after bytes → Appends before after bytes
+was_sent told before after bytes whole sent = subst (λ o. IsSent o before after bytes) whole sent
+
 pub appends_same : (before after : Option (List ℕ)) (bytes same : List ℕ) → bytes ≡ same → Appends before after bytes → Appends before after same
 appends_same before after bytes same is sent = subst (Appends before after) is sent
 
